@@ -1,0 +1,103 @@
+// The answer numbers of document 01 as types: what a call refuses, what a reader finds damaged, what a writer wrote.
+ghost use Rattle.answers.specs.Refusal.{IsRefusal};
+ghost use Rattle.answers.specs.Damage.{IsDamage};
+ghost use Rattle.answers.specs.Written.{IsWritten};
+
+// Why a call refused. A case carries nothing, so that no two of them can be told alike.
+pub enum Refusal {
+    // 8: data too long to write
+    TooLong,
+    // 9: room below the written length; for a reader, under 255 bytes lent
+    NoRoom,
+    // 10: a packet that does not begin with the mark
+    WrongMark,
+    // 11: a packet of another version
+    WrongVersion,
+    // 12: a packet's port or count
+    WrongPort,
+    // 13: a packet whose bytes are not all there
+    BytesMissing,
+    // 14: every address of the roster is used by others
+    RosterFull,
+    // 15: an exponent above 10
+    TooGreat,
+    // 16: an exponent below -3; an address that none may have, or that is free
+    OutOfRange,
+    // 17: of another kind, size or attempt than the call is for
+    Unfit,
+    // 18: a roster or a reader's state that breaks its own rules
+    Spoilt,
+    // 19: more input after the last packet that a listing takes
+    TooManyPackets,
+}
+
+// What a reader found wrong with bytes that it then passed over.
+pub enum Damage {
+    // 2: an escape that is followed by neither of its two bytes
+    BrokenPair,
+    // 3: a body of a length that no message has
+    WrongLength,
+    // 4: a body that does not begin as every body does
+    WrongStart,
+    // 5: a size that is not that of the data
+    WrongSize,
+    // 6: a checksum that does not agree
+    WrongSum,
+    // 7: a length that no message has
+    WrongCount,
+}
+
+// What a writer did with the buffer lent to it.
+pub enum Written {
+    // so many bytes stand at its front
+    Done(usize),
+    // it is as it was
+    Refused(Refusal),
+}
+
+impl Refusal {
+    pub fn number(self) -> u8
+        ensures { λ n. ⌜ IsRefusal self n ⌝ }
+    {
+        match self {
+            Refusal::TooLong => 8,
+            Refusal::NoRoom => 9,
+            Refusal::WrongMark => 10,
+            Refusal::WrongVersion => 11,
+            Refusal::WrongPort => 12,
+            Refusal::BytesMissing => 13,
+            Refusal::RosterFull => 14,
+            Refusal::TooGreat => 15,
+            Refusal::OutOfRange => 16,
+            Refusal::Unfit => 17,
+            Refusal::Spoilt => 18,
+            Refusal::TooManyPackets => 19,
+        }
+    }
+}
+
+impl Damage {
+    pub fn number(self) -> u8
+        ensures { λ n. ⌜ IsDamage self n ⌝ }
+    {
+        match self {
+            Damage::BrokenPair => 2,
+            Damage::WrongLength => 3,
+            Damage::WrongStart => 4,
+            Damage::WrongSize => 5,
+            Damage::WrongSum => 6,
+            Damage::WrongCount => 7,
+        }
+    }
+}
+
+impl Written {
+    pub fn number(self) -> u8
+        ensures { λ n. ⌜ IsWritten self n ⌝ }
+    {
+        match self {
+            Written::Done(_) => 0,
+            Written::Refused(why) => why.number(),
+        }
+    }
+}
