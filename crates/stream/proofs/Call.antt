@@ -1,0 +1,44 @@
+-- What the promise of `step` gives a family, whatever its messages: it fixes the result and the buffer, and a host sees the call.
+-- Assumes nothing.
+use Prim.Native.Nat.{ℕ}
+use mathlib.Core.Path.{_≡_, refl, sym, ap, _∙_}
+use mathlib.Core.Bool.{Bool}
+use mathlib.Core.List.{List, _++_}
+use lib.ListN.{length, drop}
+use native.Mathlib.Omega.{arith}
+use Rattle.stream.specs.Event.{Event, message, damage, Told, done, gives, refuses}
+use Rattle.stream.specs.Pieces.{Moved}
+use Rattle.stream.specs.Call.{Seen, called, delivered, retold, retells, Steps, seenBy}
+
+module _ {S M H R : Type 0} (next : S → ℕ → Moved S (Event M)) (inRange : S → Bool) (header : M → H) (bytes : M → List ℕ) (shown : R → Seen S H) where
+  -- two results that the promise allows are shown alike, and the buffer holds the same
+  pub steps-one : (s : S) (piece lent a b : List ℕ) (q r : R) → Steps next inRange header bytes shown s piece lent q a → Steps next inRange header bytes shown s piece lent r b
+      → (shown q ≡ shown r) × (a ≡ b)
+  steps-one s piece lent a b q r x y = (x .0 ∙ sym (y .0), x .1 ∙ sym (y .1))
+
+  -- where a header and the data that stand in the buffer make up the message
+  module _ (join : H → List ℕ → M) (joins : (m : M) (rest : List ℕ) → join (header m) (bytes m ++ rest) ≡ m) where
+    rejoined : (t : Told M) (lent : List ℕ) → retold (λ h. join h (delivered bytes t lent)) (retold header t) ≡ t
+    rejoined done lent = refl
+    rejoined (gives (message m)) lent = ap (λ (n : M). gives (message n)) (joins m (drop (length (bytes m)) lent))
+    rejoined (gives (damage n)) lent = refl
+    rejoined (refuses n) lent = refl
+
+    pub steps-seen : (s : S) (piece lent later : List ℕ) (r : R) → Steps next inRange header bytes shown s piece lent r later
+        → seenBy join shown r later ≡ called next inRange s piece lent
+    steps-seen s piece lent later r st =
+        let c = called next inRange s piece lent in
+        ap (retells (λ h. join h later)) (st .0)
+        ∙ ap {B = Seen S M} (λ (l : List ℕ). record { state = c .state; told = retold (λ h. join h l) (retold header (c .told)); used = c .used }) (st .1)
+        ∙ ap {B = Seen S M} (λ (t : Told M). record { state = c .state; told = t; used = c .used }) (rejoined (c .told) lent)
+
+    untouched : (t : Told M) (lent : List ℕ) → ((m : M) → t ≡ gives (message m) → ⊥) → delivered bytes t lent ≡ lent
+    untouched done lent n = refl
+    untouched (gives (message m)) lent n = absurd (n m refl)
+    untouched (gives (damage k)) lent n = refl
+    untouched (refuses k) lent n = refl
+
+    pub steps-keeps : (s : S) (piece lent later : List ℕ) (r : R) → Steps next inRange header bytes shown s piece lent r later
+        → ((m : M) → seenBy join shown r later .told ≡ gives (message m) → ⊥) → later ≡ lent
+    steps-keeps s piece lent later r st n =
+        st .1 ∙ untouched (called next inRange s piece lent .told) lent (λ m e. n m (ap (λ (v : Seen S M). v .told) (steps-seen s piece lent later r st) ∙ e))

@@ -1,0 +1,253 @@
+-- The demands, for every family that shows its facts.
+-- Assumes nothing.
+use Prim.Native.Nat.{ℕ, zero, suc, _+_, _≤_, _<_}
+use mathlib.Core.Path.{_≡_, refl, sym, ap, ap₂, _∙_, subst}
+use mathlib.Core.Bool.{Bool, true, false, cond}
+use mathlib.Core.Option.{Option, none, some}
+use mathlib.Core.List.{List, [], _∷_, _++_, map, flatten, append-assoc}
+use lib.ListN.{length, take, drop, length-drop, take-append-drop, drop-of-length-le}
+use lib.Dec.{T, ltb}
+use lib.Pow.{areBytes}
+use borrow.Author.Tests.{le-ltb}
+use native.Mathlib.Omega.{arith}
+use Rattle.stream.specs.Event.{Event, message, damage, Told, done, gives, refuses, told}
+use Rattle.stream.specs.Pieces.{Moved, Called, scan}
+use Rattle.stream.specs.Call.{Seen, refused, answered, called}
+use Rattle.stream.specs.Written.{written, ended, Each}
+use Rattle.stream.specs.Rule.{Placed, andOn, firstReadings}
+use Rattle.stream.specs.Family.{Family, Call, toldBefore, sees, Allowed, used, toldFrom, Serves, ends, turns, calls}
+use Rattle.stream.specs.Demands.{asTold, Accepts, ReadsBack, Handed, InPieces, UsedUp, Different, Kept, NeverSpoilt}
+use Rattle.stream.proofs.Bytes.{bytes-append, bytes-left, bytes-right, bytes-take, bytes-drop}
+use Rattle.stream.proofs.Run.{placedBefore, events, placed, placed-events, scan-placed}
+use Rattle.stream.proofs.Loop.{scan-used, scan-uses, scan-none, scan-front, scan-keeps}
+use Rattle.stream.proofs.Written.{Reads, given, told-apart}
+use Rattle.stream.proofs.Facts.{found, Follows, Facts}
+
+-- ---- what is told by different names is different
+
+done-refuses : {M : Type 0} {n : ℕ} → _≡_ {A = Told M} done (refuses n) → ⊥
+done-refuses h = let z : _≡_ {A = ℕ} 0 1 = cc in omega arith
+
+gives-refuses : {M : Type 0} {e : Event M} {n : ℕ} → gives e ≡ refuses n → ⊥
+gives-refuses h = let z : _≡_ {A = ℕ} 0 1 = cc in omega arith
+
+nine-eighteen : {M : Type 0} → _≡_ {A = Told M} (refuses 9) (refuses 18) → ⊥
+nine-eighteen h = let z : _≡_ {A = ℕ} 9 18 = cc in omega arith
+
+told-done : {M : Type 0} (o : Option (Event M)) → told o ≡ done → o ≡ none
+told-done none h = refl
+told-done (some e) h = let z : _≡_ {A = ℕ} 0 1 = cc in absurd (omega arith)
+
+-- ---- a call that is not refused is the scan of its piece
+
+module _ {S M : Type 0} (next : S → ℕ → Moved S (Event M)) (inRange : S → Bool) (s : S) (piece lent : List ℕ) where
+  in-room : inRange s ≡ true → 255 ≤ length lent → called next inRange s piece lent ≡ answered (scan next s piece)
+  in-room r h = rw (r, le-ltb (length lent) 255 h)
+
+  by-tests : (t u : Bool) (c : Called S (Event M))
+      → ((n : ℕ) → cond t (cond u (refused {M = M} 9 s) (answered c)) (refused 18 s) .told ≡ refuses n → ⊥)
+      → cond t (cond u (refused {M = M} 9 s) (answered c)) (refused 18 s) ≡ answered c
+  by-tests true true c h = absurd (h 9 refl)
+  by-tests true false c h = refl
+  by-tests false u c h = absurd (h 18 refl)
+
+  unrefused : ((n : ℕ) → called next inRange s piece lent .told ≡ refuses n → ⊥) → called next inRange s piece lent ≡ answered (scan next s piece)
+  unrefused h = by-tests (inRange s) (ltb (length lent) 255) (scan next s piece) h
+
+  refusal-keeps : (n : ℕ) → called next inRange s piece lent .told ≡ refuses n → (called next inRange s piece lent .state ≡ s) × (called next inRange s piece lent .used ≡ 0)
+  refusal-keeps n = go (inRange s) (ltb (length lent) 255) (scan next s piece .event) refl
+    where
+      go : (t u : Bool) (o : Option (Event M)) → scan next s piece .event ≡ o → cond t (cond u (refused {M = M} 9 s) (answered (scan next s piece))) (refused 18 s) .told ≡ refuses n
+          → (cond t (cond u (refused {M = M} 9 s) (answered (scan next s piece))) (refused 18 s) .state ≡ s) × (cond t (cond u (refused {M = M} 9 s) (answered (scan next s piece))) (refused 18 s) .used ≡ 0)
+      go true true o e h = (refl, refl)
+      go true false none e h = absurd (done-refuses (ap told (sym e) ∙ h))
+      go true false (some x) e h = absurd (gives-refuses (ap told (sym e) ∙ h))
+      go false u o e h = (refl, refl)
+
+  not-spoilt : (called next inRange s piece lent .told ≡ refuses 18 → ⊥) → inRange s ≡ true
+  not-spoilt = go (inRange s) (ltb (length lent) 255) refl
+    where
+      go : (t u : Bool) → inRange s ≡ t → (cond t (cond u (refused {M = M} 9 s) (answered (scan next s piece))) (refused 18 s) .told ≡ refuses 18 → ⊥) → t ≡ true
+      go true u e h = refl
+      go false u e h = absurd (h refl)
+
+  spoilt-only : inRange s ≡ true → called next inRange s piece lent .told ≡ refuses 18 → ⊥
+  spoilt-only r = rw r (go (ltb (length lent) 255) (scan next s piece .event) refl)
+    where
+      go : (u : Bool) (o : Option (Event M)) → scan next s piece .event ≡ o → cond u (refused {M = M} 9 s) (answered (scan next s piece)) .told ≡ refuses 18 → ⊥
+      go true o e h = nine-eighteen h
+      go false none e h = done-refuses (ap told (sym e) ∙ h)
+      go false (some x) e h = gives-refuses (ap told (sym e) ∙ h)
+
+  stays : inRange s ≡ true → inRange (scan next s piece .state) ≡ true → inRange (called next inRange s piece lent .state) ≡ true
+  stays r k = go (inRange s) (ltb (length lent) 255) r
+    where
+      go : (t u : Bool) → t ≡ true → inRange (cond t (cond u (refused {M = M} 9 s) (answered (scan next s piece))) (refused 18 s) .state) ≡ true
+      go true true e = r
+      go true false e = k
+      go false u e = r
+
+-- ---- what is told is what the bytes used come to, each event at its place
+
+told-placed : {M : Type 0} (o : Option (Event M)) (at : ℕ) (ps : List (Placed (Event M))) → toldBefore (told o) at (map asTold ps) ≡ map asTold (placedBefore o at ps)
+told-placed none at ps = refl
+told-placed (some e) at ps = refl
+
+-- ---- an event that a call found is the one that the rule found
+
+found-some : {E : Type 0} (o : Option E) (u : ℕ) (p : Placed E) → found o u ≡ some p → (o ≡ some (p .event)) × (u ≡ p .place)
+found-some none u p h = let z : _≡_ {A = ℕ} 0 1 = cc in absurd (omega arith)
+found-some (some e) u p h = (cc, cc)
+
+-- what a call found, and what the bytes after it come to, is what the rule finds, and goes on to find
+found-on : {E : Type 0} (o : Option E) (at u : ℕ) (more : List (Placed E)) (later : ℕ → List (Placed E))
+    → (o ≡ none → more ≡ []) → ((e : E) → o ≡ some e → more ≡ later u) → placedBefore o (at + u) more ≡ andOn at (found o u) later
+found-on none at u more later n g = n refl
+found-on (some e) at u more later n g = ap {B = List (Placed _)} (λ ps. record { event = e; place = at + u } ∷ ps) (g e refl)
+
+-- ---- each piece called on until it is used up
+
+served : (F : Family) {s : F .State} {ps : List (List ℕ)} {cs : List (Call (F .Result))} → Serves F s ps cs → Allowed F s cs × (used F cs ≡ flatten ps)
+unfolding flatten
+served F ends = (tt, refl)
+served F (turns more) = served F more
+served F (calls {ps} p lent later r room st more) =
+    let rest = served F more in
+    let u = F .seen r later .used in
+    ((room, st, rest .0), ap (λ (l : List ℕ). take u p ++ l) (rest .1) ∙ sym (append-assoc (take u p) (drop u p) (flatten ps)) ∙ ap (λ (l : List ℕ). l ++ flatten ps) (take-append-drop u p))
+
+pub in-pieces : (F : Family) → InPieces F
+in-pieces F s ps cs h = served F h
+
+module _ (F : Family) (facts : Facts F) where
+  -- the machine's events, each at its place, are those of the rule
+  shorter : (n : ℕ) (s : F .State) (bs : List ℕ) → length bs ≤ suc n → length (drop (scan (facts .next) s bs .used) bs) ≤ n
+  shorter n s [] h = simp length-drop (omega arith)
+  shorter n s (b ∷ bs) h = simp length-drop (omega (arith, scan-uses (facts .next) s (b ∷ bs) (omega arith)))
+
+  ruled : (n : ℕ) (bs : List ℕ) → length bs ≤ n → (known : F .Known) (s : F .State) → facts .At known s → T (areBytes bs) → (at : ℕ)
+      → placed (facts .next) at s bs ≡ firstReadings (F .rule) (F .afterEvent) n known at bs
+  ruled zero [] h known s a g at = refl
+  ruled zero (b ∷ bs) h known s a g at = absurd (omega arith)
+  ruled (suc n) bs h known s a g at =
+      let next = facts .next in
+      let f = facts .follows known s a bs g in
+      let u = scan next s bs .used in
+      let t = scan next s bs .state in
+      ap (placed next at s) (sym (take-append-drop u bs)) ∙ scan-placed next s bs (drop u bs) at
+      ∙ found-on (scan next s bs .event) at u (placed next (at + u) t (drop u bs)) (λ v. firstReadings (F .rule) (F .afterEvent) n (F .afterEvent) (at + v) (drop v bs))
+      (λ e. ap (placed next (at + u) t) (drop-of-length-le bs {i = u} (omega (arith, scan-none next s bs e))))
+      (λ e p. ruled n (drop u bs) (shorter n s bs h) (F .afterEvent) t (f .goes-on e p) (bytes-drop u bs g) (at + u))
+      ∙ ap (λ (o : Option (Placed (Event (F .Message)))). andOn at o (λ v. firstReadings (F .rule) (F .afterEvent) n (F .afterEvent) (at + v) (drop v bs))) (sym (f .finds))
+
+  -- what the calls told is what the machine makes of the bytes they used
+  told-is : (cs : List (Call (F .Result))) (s : F .State) → facts .inRange s ≡ true → Allowed F s cs → T (areBytes (used F cs)) → (at : ℕ)
+      → toldFrom F at cs ≡ map asTold (placed (facts .next) at s (used F cs))
+  told-is [] s r al g at = refl
+  told-is (c ∷ cs) s r al g at =
+      let next = facts .next in
+      let one : sees F c ≡ answered (scan next s (c .piece)) = facts .steps s (c .piece) (c .lent) (c .later) (c .result) (al .1) ∙ in-room next (facts .inRange) s (c .piece) (c .lent) r (al .0) in
+      let front : T (areBytes (take (scan next s (c .piece) .used) (c .piece))) = subst (λ (v : Seen (F .State) (F .Message)). T (areBytes (take (v .used) (c .piece)))) one (bytes-left (take (sees F c .used) (c .piece)) (used F cs) g) in
+      let kept : facts .inRange (scan next s (c .piece) .state) ≡ true = scan-keeps next (λ t. facts .inRange t ≡ true) (facts .stays-in-range) s (c .piece) front r in
+      let rest = told-is cs (sees F c .state) (ap (λ (v : Seen (F .State) (F .Message)). facts .inRange (v .state)) one ∙ kept) (al .2) (bytes-right (take (sees F c .used) (c .piece)) (used F cs) g) (at + sees F c .used) in
+      ap (toldBefore (sees F c .told) (at + sees F c .used)) rest
+      ∙ ap (λ (v : Seen (F .State) (F .Message)). toldBefore (v .told) (at + v .used) (map asTold (placed next (at + v .used) (v .state) (used F cs)))) one
+      ∙ told-placed (scan next s (c .piece) .event) _ _
+      ∙ ap (map asTold) (sym (scan-placed next s (c .piece) (used F cs) at))
+      ∙ ap (λ (v : Seen (F .State) (F .Message)). map asTold (placed next at s (take (v .used) (c .piece) ++ used F cs))) (sym one)
+
+  pub accepts : Accepts F
+  accepts cs al g =
+      told-is cs (F .fresh) (facts .fresh-in-range) al g 0
+      ∙ ap (map asTold) (ruled (length (used F cs)) (used F cs) (omega arith) (F .atStart) (F .fresh) (facts .at-start) g 0)
+
+  -- a state in which a message may begin to be read
+  abbrev Rest : F .State → Type 0
+  Rest s = (known : F .Known) × facts .At known s
+
+  reads-at-rest : (s : F .State) → Rest s → (m : F .Message) → F .Takes m → Reads (facts .next) Rest s (F .wire m) (message m)
+  reads-at-rest s rest m t =
+      let next = facts .next in
+      let f = facts .follows (rest .0) s (rest .1) (F .wire m) (facts .wire-bytes m t) in
+      let p = found-some (scan next s (F .wire m) .event) (scan next s (F .wire m) .used) _ (sym (f .finds) ∙ facts .reads (rest .0) m t) in
+      record {
+        state = scan next s (F .wire m) .state;
+        rests = (F .afterEvent, f .goes-on (message m) (p .0));
+        call = ap₂ (λ (o : Option (Event (F .Message))) (u : ℕ). record { state = scan next s (F .wire m) .state; event = o; used = u }) (p .0) (p .1);
+      }
+
+  fresh-rests : Rest (F .fresh)
+  fresh-rests = (F .atStart, facts .at-start)
+
+  pub reads-back : ReadsBack F
+  reads-back m t room frame w n wr len rest lent later r h st =
+      let next = facts .next in
+      let k = reads-at-rest (F .fresh) fresh-rests m t in
+      let wrote = facts .writes m room frame w n wr len in
+      let whole : scan next (F .fresh) (take n frame ++ rest) ≡ record { state = k .state; event = some (message m); used = length (F .wire m) } =
+      ap (λ (v : List ℕ). scan next (F .fresh) (v ++ rest)) (wrote .0)
+      ∙ scan-front next (F .fresh) (F .wire m) rest (message m) (ap (λ (c : Called (F .State) (Event (F .Message))). c .event) (k .call))
+      ∙ k .call in
+      let seen = facts .steps (F .fresh) (take n frame ++ rest) lent later r st ∙ in-room next (facts .inRange) (F .fresh) (take n frame ++ rest) lent (facts .fresh-in-range) h ∙ ap answered whole in
+      (ap (λ (v : Seen (F .State) (F .Message)). v .told) seen, ap (λ (v : Seen (F .State) (F .Message)). v .used) seen ∙ sym (wrote .1))
+
+  written-bytes : (ms : List (F .Message)) → Each (F .Takes) ms → T (areBytes (written (F .wire) ms))
+  written-bytes [] g = tt
+  written-bytes (m ∷ ms) g = bytes-append (F .wire m) (written (F .wire) ms) (facts .wire-bytes m (g .0)) (written-bytes ms (g .1))
+
+  told-events : (ps : List (Placed (Event (F .Message)))) → map (λ p. p .event) (map asTold ps) ≡ map gives (map (λ p. p .event) ps)
+  told-events [] = refl
+  told-events (p ∷ ps) = ap {B = List (Told (F .Message))} (λ es. gives (p .event) ∷ es) (told-events ps)
+
+  told-messages : (ms : List (F .Message)) → map gives (map message ms) ≡ map (λ m. gives (message m)) ms
+  told-messages [] = refl
+  told-messages (m ∷ ms) = ap {B = List (Told (F .Message))} (λ es. gives (message m) ∷ es) (told-messages ms)
+
+  pub handed : Handed F
+  handed ms g n cs al cut =
+      let next = facts .next in
+      let bytes : T (areBytes (used F cs)) = subst (λ (l : List ℕ). T (areBytes l)) (sym cut) (bytes-take n (written (F .wire) ms) (written-bytes ms g)) in
+      ap (map (λ p. p .event)) (told-is cs (F .fresh) (facts .fresh-in-range) al bytes 0)
+      ∙ told-events (placed next 0 (F .fresh) (used F cs))
+      ∙ ap (map gives) (placed-events next 0 (F .fresh) (used F cs) ∙ ap (events next (F .fresh)) cut
+      ∙ given next (F .wire) message (F .Takes) Rest reads-at-rest (F .fresh) fresh-rests ms g n)
+      ∙ told-messages (take (ended (F .wire) n ms) ms)
+
+  pub different : Different F
+  different = told-apart (facts .next) (F .wire) message (F .Takes) Rest reads-at-rest (λ a b e. cc) (F .fresh) fresh-rests
+
+  pub used-up : UsedUp F
+  used-up s piece lent later r st n =
+      let next = facts .next in
+      let seen = facts .steps s piece lent later r st in
+      let one : F .seen r later ≡ answered (scan next s piece) = seen ∙ unrefused next (facts .inRange) s piece lent (λ k e. n k (ap (λ (v : Seen (F .State) (F .Message)). v .told) seen ∙ e)) in
+      let count : F .seen r later .used ≡ scan next s piece .used = ap (λ (v : Seen (F .State) (F .Message)). v .used) one in (
+        omega (arith, scan-used next s piece),
+        λ h. omega (arith, scan-uses next s piece h),
+        λ h. count ∙ scan-none next s piece (told-done _ (sym (ap (λ (v : Seen (F .State) (F .Message)). v .told) one) ∙ h)),
+      )
+
+  pub kept : Kept F
+  kept = (
+    facts .writes-nothing,
+    facts .keeps,
+    λ s piece lent later r n st e.
+        let seen = facts .steps s piece lent later r st in
+        let k = refusal-keeps (facts .next) (facts .inRange) s piece lent n (sym (ap (λ (v : Seen (F .State) (F .Message)). v .told) seen) ∙ e) in
+        (ap (λ (v : Seen (F .State) (F .Message)). v .state) seen ∙ k .0, ap (λ (v : Seen (F .State) (F .Message)). v .used) seen ∙ k .1),
+  )
+
+  pub never-spoilt : NeverSpoilt F
+  never-spoilt = (
+    λ piece lent later r st e. never (F .fresh) piece lent later r (facts .fresh-in-range) st e,
+    λ s piece lent later r g st n piece′ lent′ later′ r′ st′ e.
+        let next = facts .next in
+        let seen = facts .steps s piece lent later r st in
+        let good : facts .inRange s ≡ true = not-spoilt next (facts .inRange) s piece lent (λ q. n (ap (λ (v : Seen (F .State) (F .Message)). v .told) seen ∙ q)) in
+        let kept : facts .inRange (scan next s piece .state) ≡ true = scan-keeps next (λ t. facts .inRange t ≡ true) (facts .stays-in-range) s piece (bytes-take (scan next s piece .used) piece g) good in
+        never (F .seen r later .state) piece′ lent′ later′ r′ (ap (λ (v : Seen (F .State) (F .Message)). facts .inRange (v .state)) seen ∙ stays next (facts .inRange) s piece lent good kept) st′ e,
+  )
+    where
+      never : (s : F .State) (piece lent later : List ℕ) (r : F .Result) → facts .inRange s ≡ true → F .Steps s piece lent r later → F .seen r later .told ≡ refuses 18 → ⊥
+      never s piece lent later r good st e =
+          spoilt-only (facts .next) (facts .inRange) s piece lent good (sym (ap (λ (v : Seen (F .State) (F .Message)). v .told) (facts .steps s piece lent later r st)) ∙ e)

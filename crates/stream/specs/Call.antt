@@ -1,0 +1,57 @@
+-- One call of a family's `step`, for every state, piece and lent buffer: what document 01's table of answers says of a reader.
+use Prim.Native.Nat.{ℕ}
+use mathlib.Core.Path.{_≡_}
+use mathlib.Core.Bool.{Bool, cond}
+use mathlib.Core.List.{List, _++_}
+use lib.ListN.{length, drop}
+use lib.Dec.{ltb}
+use Rattle.stream.specs.Event.{Event, message, damage, Told, done, gives, refuses, told}
+use Rattle.stream.specs.Pieces.{Moved, Called, scan}
+
+-- what a call hands back: the next state, what it tells, and the number of bytes used
+pub record Seen (S M : Type 0) : Type 0 where
+  pub state : S
+  pub told : Told M
+  pub used : ℕ
+
+-- a refusal: nothing used, state unchanged
+abbrev pub refused : {S M : Type 0} → ℕ → S → Seen S M
+refused n s = record { state = s; told = refuses n; used = 0 }
+
+-- the piece, scanned
+abbrev pub answered : {S M : Type 0} → Called S (Event M) → Seen S M
+answered c = record { state = c .state; told = told (c .event); used = c .used }
+
+-- A reader tests 18, then 9 (under 255 bytes lent), then the piece
+abbrev pub called : {S M : Type 0} → (S → ℕ → Moved S (Event M)) → (S → Bool) → S → List ℕ → List ℕ → Seen S M
+called next inRange s piece lent =
+    cond (inRange s) (cond (ltb (length lent) 255) (refused 9 s) (answered (scan next s piece))) (refused 18 s)
+
+-- the lent buffer afterwards: with a message its data at the front, the rest unchanged; with anything else as it was
+abbrev pub delivered : {M : Type 0} → (M → List ℕ) → Told M → List ℕ → List ℕ
+delivered bytes done lent = lent
+delivered bytes (gives (message m)) lent = bytes m ++ drop (length (bytes m)) lent
+delivered bytes (gives (damage n)) lent = lent
+delivered bytes (refuses n) lent = lent
+
+-- the same answer, told of a message by another name for it
+abbrev pub retold : {M N : Type 0} → (M → N) → Told M → Told N
+retold f done = done
+retold f (gives (message m)) = gives (message (f m))
+retold f (gives (damage n)) = gives (damage n)
+retold f (refuses n) = refuses n
+
+abbrev pub retells : {S M N : Type 0} → (M → N) → Seen S M → Seen S N
+retells f c = record { state = c .state; told = retold f (c .told); used = c .used }
+
+-- THE PROMISE OF `step`: its result, as `shown` reads it off, is the call's, with a message's header for the message,
+-- since the data are in the lent buffer; and the lent buffer afterwards is as above
+abbrev pub Steps : {S M H R : Type 0} → (S → ℕ → Moved S (Event M)) → (S → Bool) → (M → H) → (M → List ℕ) → (R → Seen S H)
+    → S → List ℕ → List ℕ → R → List ℕ → Type 0
+Steps next inRange header bytes shown s piece lent r later =
+    let c = called next inRange s piece lent in
+    (shown r ≡ retells header c) × (later ≡ delivered bytes (c .told) lent)
+
+-- what a host sees of a result: a message is its header joined with the data at the front of the lent buffer
+abbrev pub seenBy : {S M H R : Type 0} → (H → List ℕ → M) → (R → Seen S H) → R → List ℕ → Seen S M
+seenBy join shown r later = retells (λ h. join h later) (shown r)

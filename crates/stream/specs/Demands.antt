@@ -1,0 +1,93 @@
+-- The demands, for any machine and for any family. A family's own demands are these at that family, and nothing else.
+use Prim.Native.Nat.{ℕ, _+_, _≤_, _<_}
+use mathlib.Core.Path.{_≡_}
+use mathlib.Core.Option.{Option, none, some}
+use mathlib.Core.List.{List, [], _∷_, _++_, map, flatten}
+use lib.ListN.{length, take}
+use lib.Dec.{T}
+use lib.Pow.{areBytes}
+use Rattle.stream.specs.Event.{Event, message, Told, done, gives, refuses}
+use Rattle.stream.specs.Pieces.{Moved, Ran, calls, feed}
+use Rattle.stream.specs.Written.{written, ended, Each}
+use Rattle.stream.specs.Rule.{Placed, readings}
+use Rattle.stream.specs.Family.{Family, Call, Allowed, used, toldFrom, Serves}
+
+-- ---- of any machine
+
+module _ {S E : Type 0} (next : S → ℕ → Moved S E) where
+  -- pieces do not matter: the same bytes in one piece come to the same
+  abbrev pub PiecesDoNotMatter : Type 0
+  PiecesDoNotMatter = (s : S) (ps : List (List ℕ)) → feed next s ps ≡ feed next s (flatten ps ∷ [])
+
+  -- a piece is used up in at most as many calls as it has bytes, and further calls change nothing
+  abbrev pub UsedUpInTime : Type 0
+  UsedUpInTime = (s : S) (p : List ℕ) (n : ℕ) → length p ≤ n → (calls next n s p .left ≡ []) × (calls next n s p ≡ calls next (length p) s p)
+
+-- ---- of any family
+
+-- an event as a host is told it
+abbrev pub asTold : {M : Type 0} → Placed (Event M) → Placed (Told M)
+asTold p = record { event = gives (p .event); place = p .place }
+
+module _ (F : Family) where
+  -- DEMAND 2. From fresh, whatever is handed over in whatever calls: what is told, and at which byte, is exactly what the rule finds
+  -- in the bytes used. So a frame is accepted exactly when every rule of its family holds, and reading goes on as the rule does
+  abbrev pub Accepts : Type 0
+  Accepts =
+      (cs : List (Call (F .Result))) → Allowed F (F .fresh) cs → T (areBytes (used F cs))
+      → toldFrom F 0 cs ≡ map asTold (readings (F .rule) (F .afterEvent) (F .atStart) (used F cs))
+
+  -- DEMAND 2. Each message written reads back as itself, whatever follows it, with any buffer of at least 255 bytes
+  abbrev pub ReadsBack : Type 0
+  ReadsBack =
+      (m : F .Message) → F .Takes m
+      → (room frame : List ℕ) (w : F .Written) (n : ℕ) → F .Writes m room w frame → F .wrote w ≡ some n
+      → (rest lent later : List ℕ) (r : F .Result) → 255 ≤ length lent → F .Steps (F .fresh) (take n frame ++ rest) lent r later
+      → (F .seen r later .told ≡ gives (message m)) × (F .seen r later .used ≡ n)
+
+  -- DEMAND 3. Any list of messages written one after another, handed over in any calls and stopped after any byte, the nth: what was told
+  -- are exactly the messages whose last byte was handed over, in order, once, and no damage
+  abbrev pub Handed : Type 0
+  Handed =
+      (ms : List (F .Message)) → Each (F .Takes) ms
+      → (n : ℕ) (cs : List (Call (F .Result))) → Allowed F (F .fresh) cs → used F cs ≡ take n (written (F .wire) ms)
+      → map (λ p. p .event) (toldFrom F 0 cs) ≡ map (λ m. gives (message m)) (take (ended (F .wire) n ms) ms)
+
+  -- DEMAND 3. Pieces cut anywhere and each called on until it is used up are such calls, and the bytes handed over are the pieces joined
+  abbrev pub InPieces : Type 0
+  InPieces =
+      (s : F .State) (ps : List (List ℕ)) (cs : List (Call (F .Result))) → Serves F s ps cs → Allowed F s cs × (used F cs ≡ flatten ps)
+
+  -- DEMAND 3. And the calls end: one that is not refused uses no more than its piece, at least a byte of it if there is one,
+  -- and all of it if it tells nothing
+  abbrev pub UsedUp : Type 0
+  UsedUp =
+      (s : F .State) (piece lent later : List ℕ) (r : F .Result) → F .Steps s piece lent r later
+      → ((n : ℕ) → F .seen r later .told ≡ refuses n → ⊥)
+      → (F .seen r later .used ≤ length piece)
+      × (0 < length piece → 0 < F .seen r later .used)
+      × (F .seen r later .told ≡ done → F .seen r later .used ≡ length piece)
+
+  -- DEMAND 3. Two different lists never have the same bytes
+  abbrev pub Different : Type 0
+  Different =
+      (ms ns : List (F .Message)) → Each (F .Takes) ms → Each (F .Takes) ns → written (F .wire) ms ≡ written (F .wire) ns → ms ≡ ns
+
+  -- DEMAND 1. After a refusal each lent buffer holds what it held, and so it does after any call of a reader that gives no message;
+  -- with a refusal the state is unchanged and nothing is used
+  abbrev pub Kept : Type 0
+  Kept =
+      ((m : F .Message) (lent later : List ℕ) (w : F .Written) → F .Writes m lent w later → F .wrote w ≡ none → later ≡ lent)
+      × ((s : F .State) (piece lent later : List ℕ) (r : F .Result) → F .Steps s piece lent r later
+      → ((m : F .Message) → F .seen r later .told ≡ gives (message m) → ⊥) → later ≡ lent)
+      × ((s : F .State) (piece lent later : List ℕ) (r : F .Result) (n : ℕ) → F .Steps s piece lent r later
+      → F .seen r later .told ≡ refuses n → (F .seen r later .state ≡ s) × (F .seen r later .used ≡ 0))
+
+  -- DEMAND 1. 18 is never given for a fresh state, nor for one handed back from any state, forged ones too, that was not itself refused with 18
+  abbrev pub NeverSpoilt : Type 0
+  NeverSpoilt =
+      ((piece lent later : List ℕ) (r : F .Result) → F .Steps (F .fresh) piece lent r later → F .seen r later .told ≡ refuses 18 → ⊥)
+      × ((s : F .State) (piece lent later : List ℕ) (r : F .Result) → T (areBytes piece) → F .Steps s piece lent r later
+      → (F .seen r later .told ≡ refuses 18 → ⊥)
+      → (piece′ lent′ later′ : List ℕ) (r′ : F .Result) → F .Steps (F .seen r later .state) piece′ lent′ r′ later′
+      → F .seen r′ later′ .told ≡ refuses 18 → ⊥)
