@@ -1,0 +1,3 @@
+pub mod Fcs
+pub mod Table
+pub mod Demands
