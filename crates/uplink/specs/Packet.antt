@@ -1,0 +1,100 @@
+-- The uplink packet, in document 01's words and order: its bytes, its tests, and what reading and writing promise.
+use Prim.Native.Nat.{ℕ, _+_, _*_, _/_, _%_}
+use mathlib.Core.Path.{_≡_}
+use mathlib.Core.List.{List, [], _∷_, _++_}
+use mathlib.Core.Bool.{Bool, cond, _&&_}
+use lib.ListN.{length, getD, drop}
+use lib.Dec.{leb, eqb}
+use Rattle.answers.specs.Answer.{Answer, answer}
+use Rattle.answers.specs.Refusal.{refused}
+use Rattle.answers.specs.Written as Written
+use Rattle.answers.specs.declared.Refusal.the-variants.{NoRoom, WrongMark, WrongVersion, WrongPort, BytesMissing}
+use Rattle.answers.specs.declared.Written.{Written}
+use Rattle.uplink.specs.declared.Received.{Received}
+use Rattle.uplink.specs.declared.Received.the-variants.{Packet, Refused}
+
+-- Mark `SBR`,
+abbrev pub mark : List ℕ
+mark = 83 ∷ 66 ∷ 82 ∷ []
+
+-- version 00 01 for the ports 1 to 3: which version carries which port is said here alone. 0 is no version.
+unfoldable pub versionOf : ℕ → ℕ
+versionOf port = cond (leb 1 port && leb port 3) 1 0
+
+-- a version that carries some port
+unfoldable pub known : ℕ → Bool
+known version = eqb version (versionOf 1)
+
+-- count 1 to 240,
+abbrev pub lineMax : ℕ
+lineMax = 240
+
+unfoldable pub counted : ℕ → Bool
+counted count = leb 1 count && leb count lineMax
+
+-- The seven bytes before the line: mark, version (high byte first), port, count;
+abbrev pub headLength : ℕ
+headLength = 7
+
+abbrev pub head : ℕ → ℕ → ℕ → List ℕ
+head version port count = mark ++ (version / 256 ∷ version % 256 ∷ port ∷ count ∷ [])
+
+-- then that many line bytes.
+abbrev pub packet : ℕ → List ℕ → List ℕ
+packet port line = head (versionOf port) port (length line) ++ line
+
+-- A test: where it holds, what follows decides; else this is the answer.
+abbrev pub need : {A : Type 0} → Bool → A → A → A
+need test answered following = cond test following answered
+
+-- What stands in a head
+unfoldable pub marked : List ℕ → Bool
+marked s = eqb (getD s 0 0) (getD mark 0 0) && eqb (getD s 1 0) (getD mark 1 0) && eqb (getD s 2 0) (getD mark 2 0)
+
+abbrev pub versionIn : List ℕ → ℕ
+versionIn s = 256 * getD s 3 0 + getD s 4 0
+
+abbrev pub portIn : List ℕ → ℕ
+portIn s = getD s 5 0
+
+abbrev pub countIn : List ℕ → ℕ
+countIn s = getD s 6 0
+
+-- the version carries the port, and the count is in range
+unfoldable pub carried : List ℕ → Bool
+carried s = eqb (versionOf (portIn s)) (versionIn s) && counted (countIn s)
+
+-- Tests: fewer than 7 bytes 13; mark 10; version 11; port or count 12; bytes missing 13.
+-- With 0 port, count and bytes used (7 plus count).
+unfoldable pub packetAt : List ℕ → Answer
+packetAt s =
+    need (leb headLength (length s)) (refused 3 BytesMissing)
+    (need (marked s) (refused 3 WrongMark)
+    (need (known (versionIn s)) (refused 3 WrongVersion)
+    (need (carried s) (refused 3 WrongPort)
+    (need (leb (headLength + countIn s) (length s)) (refused 3 BytesMissing)
+    (answer 0 (portIn s ∷ countIn s ∷ (headLength + countIn s) ∷ []))))))
+
+abbrev pub told : Received → Answer
+told (Packet port count used) = answer 0 (port ∷ count ∷ used ∷ [])
+told (Refused why) = refused 3 why
+
+-- what `read` promises of the bytes and its result
+abbrev pub IsRead : List ℕ → Received → Type 0
+IsRead s r = told r ≡ packetAt s
+
+-- a port with a version, and a count
+abbrev pub takes : ℕ → ℕ → Bool
+takes port count = known (versionOf port) && counted count
+
+-- The packet writer tests 12, then 9 (room below the exact written length);
+-- with 0 it answers the length. What it tells, and what then stands in the lent buffer:
+unfoldable pub written : ℕ → List ℕ → List ℕ → Answer × List ℕ
+written port line lent =
+    need (takes port (length line)) (refused 1 WrongPort, lent)
+    (need (leb (headLength + length line) (length lent)) (refused 1 NoRoom, lent)
+    (answer 0 ((headLength + length line) ∷ []), packet port line ++ drop (headLength + length line) lent))
+
+-- what `write` promises of its arguments, its result and the later content of the lent buffer
+abbrev pub IsWritten : ℕ → List ℕ → List ℕ → Written → List ℕ → Type 0
+IsWritten port line lent w later = (Written.told w ≡ written port line lent .0) × (later ≡ written port line lent .1)

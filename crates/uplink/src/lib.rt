@@ -1,0 +1,128 @@
+// The uplink packet: the mark `SBR`, the version, the port, the count, and that many line bytes.
+use answers::Refusal;
+use answers::Written;
+ghost use mathlib.Core.Path.{_≡_};
+ghost use Prim.Native.Nat.{_+_, _*_, _≤_};
+ghost use lib.ListN.{length};
+ghost use lib.Seq.{sets};
+ghost use Rattle.uplink.specs.Packet.{versionOf, known, counted, headLength, head, marked, IsRead, IsWritten};
+
+// The packet's mark, compared by `read` and written by `write`.
+const MARK: [u8; 3] = *b"SBR";
+
+// The bytes before the line: mark, version, port and count.
+pub const HEAD: usize = 7;
+
+// The longest line of one packet.
+pub const LINE_MAX: usize = 240;
+
+// What the bytes at the front of a slice are read as.
+pub enum Received {
+    // The line is the `count` bytes behind the head; what follows the `used` bytes belongs to the next packet.
+    Packet { port: u8, count: u8, used: usize },
+    Refused(Refusal),
+}
+
+// The version that carries a port, 0 where none does. No other place, in reader or writer, says which version goes with
+// which port.
+fn version_of(port: u8) -> u16
+    ensures { λ v. ⌜ v ≡ versionOf port ⌝ }
+{
+    if (1 <= port) & (port <= 3) { 1 } else { 0 }
+}
+
+// Whether a version carries any port. 0 does not.
+fn known(version: u16) -> bool
+    ensures { λ r. ⌜ r ≡ known version ⌝ }
+{
+    version == version_of(1)
+}
+
+// Whether a packet may have so many line bytes.
+fn counted(count: usize) -> bool
+    ensures { λ r. ⌜ r ≡ counted count ⌝ }
+{
+    (1 <= count) & (count <= LINE_MAX)
+}
+
+// Whether the mark stands at the front of a whole head.
+fn marked(s: &[u8]) -> bool
+    requires { ⌜ headLength ≤ length (now s) ⌝ }
+    ensures { λ r. ⌜ r ≡ marked (now (s .entry)) ⌝ }
+{
+    (s[0] == MARK[0]) & (s[1] == MARK[1]) & (s[2] == MARK[2])
+}
+
+// Two bytes as one number, high byte first.
+fn word(high: u8, low: u8) -> u16
+    ensures { λ r. ⌜ r ≡ 256 * high + low ⌝ }
+{
+    256 * (high as u16) + low as u16
+}
+
+// A byte as a length.
+fn wide(byte: u8) -> usize
+    ensures { λ r. ⌜ r ≡ byte ⌝ }
+{
+    byte as usize
+}
+
+// Reads the packet at the front of `s`, and copies nothing. That line bytes are missing is the last test, so that a wrong
+// packet is refused as soon as its head is there.
+pub fn read(s: &[u8]) -> Received
+    ensures { λ r. ⌜ IsRead (now (s .entry)) r ⌝ }
+{
+    if s.len() < HEAD {
+        return Received::Refused(Refusal::BytesMissing);
+    }
+    if !marked(s) {
+        return Received::Refused(Refusal::WrongMark);
+    }
+    let version = word(s[3], s[4]);
+    if !known(version) {
+        return Received::Refused(Refusal::WrongVersion);
+    }
+    let port = s[5];
+    let count = s[6];
+    let n = wide(count);
+    if !((version_of(port) == version) & counted(n)) {
+        return Received::Refused(Refusal::WrongPort);
+    }
+    let used = HEAD + n;
+    if s.len() < used {
+        return Received::Refused(Refusal::BytesMissing);
+    }
+    Received::Packet { port, count, used }
+}
+
+// Stores a packet's head at the front of `lent`.
+fn put_head(version: u16, port: u8, count: u8, lent: &mut [u8])
+    requires { ⌜ headLength ≤ length (now lent) ⌝ }
+    ensures { λ _. ⌜ now (lent .exit) ≡ sets (now (lent .entry)) 0 (head version port count) ⌝ }
+{
+    lent[0] = MARK[0];
+    lent[1] = MARK[1];
+    lent[2] = MARK[2];
+    lent[3] = (version / 256) as u8;
+    lent[4] = (version % 256) as u8;
+    lent[5] = port;
+    lent[6] = count;
+}
+
+// Writes the packet that carries `line` for `port` at the front of `lent`. Nothing is stored before every test has held.
+pub fn write(port: u8, line: &[u8], lent: &mut [u8]) -> Written
+    ensures { λ w. ⌜ IsWritten port (now (line .entry)) (now (lent .entry)) w (now (lent .exit)) ⌝ }
+{
+    let version = version_of(port);
+    let count = line.len();
+    if !(known(version) & counted(count)) {
+        return Written::Refused(Refusal::WrongPort);
+    }
+    let used = HEAD + count;
+    if lent.len() < used {
+        return Written::Refused(Refusal::NoRoom);
+    }
+    put_head(version, port, count as u8, lent);
+    bytes::copy(line, &mut lent[HEAD..]);
+    Written::Done(used)
+}
