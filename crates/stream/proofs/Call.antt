@@ -1,20 +1,41 @@
 -- What the promise of `step` gives a family, whatever its messages: it fixes the result and the buffer, and a host sees the call.
 -- Assumes nothing.
-use Prim.Native.Nat.{ℕ}
-use mathlib.Core.Path.{_≡_, refl, sym, ap, _∙_}
-use mathlib.Core.Bool.{Bool}
+use Prim.Native.Nat.{ℕ, _≤_, _<_}
+use mathlib.Core.Path.{_≡_, refl, sym, ap, _∙_, subst}
+use mathlib.Core.Bool.{Bool, true, false}
 use mathlib.Core.List.{List, _++_}
 use lib.ListN.{length, drop}
-use native.Mathlib.Omega.{arith}
-use Rattle.stream.specs.Event.{Event, message, damage, Told, done, gives, refuses}
-use Rattle.stream.specs.Pieces.{Moved}
-use Rattle.stream.specs.Call.{Seen, called, delivered, retold, retells, Steps, seenBy}
+use borrow.Author.Tests.{lt-ltb, le-ltb}
+use Rattle.stream.specs.Event.{Event, message, damage, Told, done, gives, refuses, told}
+use Rattle.stream.specs.Pieces.{Moved, Called, scan}
+use Rattle.stream.specs.Call.{Seen, refused, answered, called, delivered, retold, retells, Steps, seenBy}
+
+-- a state in range, and room: the scan of the piece
+pub in-room : {S M : Type 0} (next : S → ℕ → Moved S (Event M)) (inRange : S → Bool) (s : S) (piece lent : List ℕ) → inRange s ≡ true → 255 ≤ length lent
+    → called next inRange s piece lent ≡ answered (scan next s piece)
+in-room next inRange s piece lent r h = rw (r, le-ltb (length lent) 255 h)
 
 module _ {S M H R : Type 0} (next : S → ℕ → Moved S (Event M)) (inRange : S → Bool) (header : M → H) (bytes : M → List ℕ) (shown : R → Seen S H) where
   -- two results that the promise allows are shown alike, and the buffer holds the same
   pub steps-one : (s : S) (piece lent a b : List ℕ) (q r : R) → Steps next inRange header bytes shown s piece lent q a → Steps next inRange header bytes shown s piece lent r b
       → (shown q ≡ shown r) × (a ≡ b)
   steps-one s piece lent a b q r x y = (x .0 ∙ sym (y .0), x .1 ∙ sym (y .1))
+
+  -- ---- how a `step` shows its promise, at each of its three ends
+
+  by-call : (s : S) (piece lent later : List ℕ) (r : R) (c : Seen S M) → called next inRange s piece lent ≡ c → shown r ≡ retells header c → later ≡ delivered bytes (c .told) lent
+      → Steps next inRange header bytes shown s piece lent r later
+  by-call s piece lent later r c e x y = subst (λ (v : Seen S M). (shown r ≡ retells header v) × (later ≡ delivered bytes (v .told) lent)) (sym e) (x, y)
+
+  pub steps-spoilt : (s : S) (piece lent : List ℕ) (r : R) → inRange s ≡ false → shown r ≡ refused 18 s → Steps next inRange header bytes shown s piece lent r lent
+  steps-spoilt s piece lent r o x = by-call s piece lent lent r (refused 18 s) (rw o) x refl
+
+  pub steps-no-room : (s : S) (piece lent : List ℕ) (r : R) → inRange s ≡ true → length lent < 255 → shown r ≡ refused 9 s → Steps next inRange header bytes shown s piece lent r lent
+  steps-no-room s piece lent r i h x = by-call s piece lent lent r (refused 9 s) (rw (i, lt-ltb (length lent) 255 h)) x refl
+
+  pub steps-scan : (s : S) (piece lent later : List ℕ) (r : R) (c : Called S (Event M)) → inRange s ≡ true → 255 ≤ length lent → scan next s piece ≡ c
+      → shown r ≡ retells header (answered c) → later ≡ delivered bytes (told (c .event)) lent → Steps next inRange header bytes shown s piece lent r later
+  steps-scan s piece lent later r c i h e x y = by-call s piece lent later r (answered c) (in-room next inRange s piece lent i h ∙ ap answered e) x y
 
   -- where a header and the data that stand in the buffer make up the message
   module _ (join : H → List ℕ → M) (joins : (m : M) (rest : List ℕ) → join (header m) (bytes m ++ rest) ≡ m) where

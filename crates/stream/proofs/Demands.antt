@@ -8,7 +8,6 @@ use mathlib.Core.List.{List, [], _∷_, _++_, map, flatten, append-assoc}
 use lib.ListN.{length, take, drop, length-drop, take-append-drop, drop-of-length-le}
 use lib.Dec.{T, ltb}
 use lib.Pow.{areBytes}
-use borrow.Author.Tests.{le-ltb}
 use native.Mathlib.Omega.{arith}
 use Rattle.stream.specs.Event.{Event, message, damage, Told, done, gives, refuses, told}
 use Rattle.stream.specs.Pieces.{Moved, Called, scan}
@@ -21,6 +20,7 @@ use Rattle.stream.proofs.Bytes.{bytes-append, bytes-left, bytes-right, 
 use Rattle.stream.proofs.Run.{placedBefore, events, placed, placed-events, scan-placed}
 use Rattle.stream.proofs.Loop.{scan-used, scan-uses, scan-none, scan-front, scan-keeps}
 use Rattle.stream.proofs.Written.{Reads, given, told-apart}
+use Rattle.stream.proofs.Call.{in-room}
 use Rattle.stream.proofs.Facts.{found, Follows, Facts}
 
 -- ---- what is told by different names is different
@@ -41,9 +41,6 @@ told-done (some e) h = let z : _≡_ {A = ℕ} 0 1 = cc in absurd (omega arith)
 -- ---- a call that is not refused is the scan of its piece
 
 module _ {S M : Type 0} (next : S → ℕ → Moved S (Event M)) (inRange : S → Bool) (s : S) (piece lent : List ℕ) where
-  in-room : inRange s ≡ true → 255 ≤ length lent → called next inRange s piece lent ≡ answered (scan next s piece)
-  in-room r h = rw (r, le-ltb (length lent) 255 h)
-
   by-tests : (t u : Bool) (c : Called S (Event M))
       → ((n : ℕ) → cond t (cond u (refused {M = M} 9 s) (answered c)) (refused 18 s) .told ≡ refuses n → ⊥)
       → cond t (cond u (refused {M = M} 9 s) (answered c)) (refused 18 s) ≡ answered c
