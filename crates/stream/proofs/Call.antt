@@ -8,12 +8,12 @@ use lib.ListN.{length, drop}
 use borrow.Author.Tests.{lt-ltb, le-ltb}
 use Rattle.stream.specs.Event.{Event, message, damage, Told, done, gives, refuses, told}
 use Rattle.stream.specs.Pieces.{Moved, Called, scan}
-use Rattle.stream.specs.Call.{Seen, refused, answered, called, delivered, retold, retells, Steps, seenBy}
+use Rattle.stream.specs.Call.{Seen, lentLeast, refused, answered, called, delivered, retold, retells, Steps, seenBy}
 
 -- a state in range, and room: the scan of the piece
-pub in-room : {S M : Type 0} (next : S → ℕ → Moved S (Event M)) (inRange : S → Bool) (s : S) (piece lent : List ℕ) → inRange s ≡ true → 255 ≤ length lent
+pub in-room : {S M : Type 0} (next : S → ℕ → Moved S (Event M)) (inRange : S → Bool) (s : S) (piece lent : List ℕ) → inRange s ≡ true → lentLeast ≤ length lent
     → called next inRange s piece lent ≡ answered (scan next s piece)
-in-room next inRange s piece lent r h = rw (r, le-ltb (length lent) 255 h)
+in-room next inRange s piece lent r h = rw (r, le-ltb (length lent) lentLeast h)
 
 module _ {S M H R : Type 0} (next : S → ℕ → Moved S (Event M)) (inRange : S → Bool) (header : M → H) (bytes : M → List ℕ) (shown : R → Seen S H) where
   -- two results that the promise allows are shown alike, and the buffer holds the same
@@ -30,10 +30,10 @@ module _ {S M H R : Type 0} (next : S → ℕ → Moved S (Event M)) (inRange : 
   pub steps-spoilt : (s : S) (piece lent : List ℕ) (r : R) → inRange s ≡ false → shown r ≡ refused 18 s → Steps next inRange header bytes shown s piece lent r lent
   steps-spoilt s piece lent r o x = by-call s piece lent lent r (refused 18 s) (rw o) x refl
 
-  pub steps-no-room : (s : S) (piece lent : List ℕ) (r : R) → inRange s ≡ true → length lent < 255 → shown r ≡ refused 9 s → Steps next inRange header bytes shown s piece lent r lent
-  steps-no-room s piece lent r i h x = by-call s piece lent lent r (refused 9 s) (rw (i, lt-ltb (length lent) 255 h)) x refl
+  pub steps-no-room : (s : S) (piece lent : List ℕ) (r : R) → inRange s ≡ true → length lent < lentLeast → shown r ≡ refused 9 s → Steps next inRange header bytes shown s piece lent r lent
+  steps-no-room s piece lent r i h x = by-call s piece lent lent r (refused 9 s) (rw (i, lt-ltb (length lent) lentLeast h)) x refl
 
-  pub steps-scan : (s : S) (piece lent later : List ℕ) (r : R) (c : Called S (Event M)) → inRange s ≡ true → 255 ≤ length lent → scan next s piece ≡ c
+  pub steps-scan : (s : S) (piece lent later : List ℕ) (r : R) (c : Called S (Event M)) → inRange s ≡ true → lentLeast ≤ length lent → scan next s piece ≡ c
       → shown r ≡ retells header (answered c) → later ≡ delivered bytes (told (c .event)) lent → Steps next inRange header bytes shown s piece lent r later
   steps-scan s piece lent later r c i h e x y = by-call s piece lent later r (answered c) (in-room next inRange s piece lent i h ∙ ap answered e) x y
 

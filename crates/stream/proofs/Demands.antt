@@ -11,7 +11,7 @@ use lib.Pow.{areBytes}
 use native.Mathlib.Omega.{arith}
 use Rattle.stream.specs.Event.{Event, message, damage, Told, done, gives, refuses, told}
 use Rattle.stream.specs.Pieces.{Moved, Called, scan}
-use Rattle.stream.specs.Call.{Seen, refused, answered, called}
+use Rattle.stream.specs.Call.{Seen, lentLeast, refused, answered, called}
 use Rattle.stream.specs.Written.{written, ended, Each}
 use Rattle.stream.specs.Rule.{Placed, andOn, firstReadings}
 use Rattle.stream.specs.Family.{Family, Call, toldBefore, sees, Allowed, used, toldFrom, Serves, ends, turns, calls}
@@ -49,10 +49,10 @@ module _ {S M : Type 0} (next : S → ℕ → Moved S (Event M)) (inRange : S �
   by-tests false u c h = absurd (h 18 refl)
 
   unrefused : ((n : ℕ) → called next inRange s piece lent .told ≡ refuses n → ⊥) → called next inRange s piece lent ≡ answered (scan next s piece)
-  unrefused h = by-tests (inRange s) (ltb (length lent) 255) (scan next s piece) h
+  unrefused h = by-tests (inRange s) (ltb (length lent) lentLeast) (scan next s piece) h
 
   refusal-keeps : (n : ℕ) → called next inRange s piece lent .told ≡ refuses n → (called next inRange s piece lent .state ≡ s) × (called next inRange s piece lent .used ≡ 0)
-  refusal-keeps n = go (inRange s) (ltb (length lent) 255) (scan next s piece .event) refl
+  refusal-keeps n = go (inRange s) (ltb (length lent) lentLeast) (scan next s piece .event) refl
     where
       go : (t u : Bool) (o : Option (Event M)) → scan next s piece .event ≡ o → cond t (cond u (refused {M = M} 9 s) (answered (scan next s piece))) (refused 18 s) .told ≡ refuses n
           → (cond t (cond u (refused {M = M} 9 s) (answered (scan next s piece))) (refused 18 s) .state ≡ s) × (cond t (cond u (refused {M = M} 9 s) (answered (scan next s piece))) (refused 18 s) .used ≡ 0)
@@ -62,14 +62,14 @@ module _ {S M : Type 0} (next : S → ℕ → Moved S (Event M)) (inRange : S �
       go false u o e h = (refl, refl)
 
   not-spoilt : (called next inRange s piece lent .told ≡ refuses 18 → ⊥) → inRange s ≡ true
-  not-spoilt = go (inRange s) (ltb (length lent) 255) refl
+  not-spoilt = go (inRange s) (ltb (length lent) lentLeast) refl
     where
       go : (t u : Bool) → inRange s ≡ t → (cond t (cond u (refused {M = M} 9 s) (answered (scan next s piece))) (refused 18 s) .told ≡ refuses 18 → ⊥) → t ≡ true
       go true u e h = refl
       go false u e h = absurd (h refl)
 
   spoilt-only : inRange s ≡ true → called next inRange s piece lent .told ≡ refuses 18 → ⊥
-  spoilt-only r = rw r (go (ltb (length lent) 255) (scan next s piece .event) refl)
+  spoilt-only r = rw r (go (ltb (length lent) lentLeast) (scan next s piece .event) refl)
     where
       go : (u : Bool) (o : Option (Event M)) → scan next s piece .event ≡ o → cond u (refused {M = M} 9 s) (answered (scan next s piece)) .told ≡ refuses 18 → ⊥
       go true o e h = nine-eighteen h
@@ -77,7 +77,7 @@ module _ {S M : Type 0} (next : S → ℕ → Moved S (Event M)) (inRange : S �
       go false (some x) e h = gives-refuses (ap told (sym e) ∙ h)
 
   stays : inRange s ≡ true → inRange (scan next s piece .state) ≡ true → inRange (called next inRange s piece lent .state) ≡ true
-  stays r k = go (inRange s) (ltb (length lent) 255) r
+  stays r k = go (inRange s) (ltb (length lent) lentLeast) r
     where
       go : (t u : Bool) → t ≡ true → inRange (cond t (cond u (refused {M = M} 9 s) (answered (scan next s piece))) (refused 18 s) .state) ≡ true
       go true true e = r

@@ -5,4 +5,5 @@ pub mod Loop
 pub mod Written
 pub mod Call
 pub mod Facts
+pub mod Follows
 pub mod Demands

@@ -1,11 +1,12 @@
 -- Laws of lists that more than one family's code asks for.
 -- Assumes nothing.
 use Prim.Native.Nat.{ℕ, zero, suc, _+_, _-_, _≤_}
-use mathlib.Core.Path.{_≡_, refl, ap, _∙_}
-use mathlib.Core.List.{List, [], _∷_, _++_}
-use lib.ListN.{length, take, drop, length-drop}
-use lib.Seq.{take-nil, take-length, length-take-le}
-use native.Mathlib.Nat.{zero-add, suc-add}
+use mathlib.Core.Path.{_≡_, refl, sym, ap, _∙_}
+use mathlib.Core.List.{List, [], _∷_, _++_, append-nil, append-assoc}
+use lib.ListN.{length, take, drop, set, length-drop, drop-of-length-le}
+use lib.Seq.{take-nil, take-all, take-length, length-take-le, drop-drop, sets, sets-eq}
+use native.Mathlib.Nat.{add-zero, zero-add, add-suc, suc-add, le-refl}
+use borrow.Rule.Slice.PartMut.{putMid}
 use native.Mathlib.Omega.{arith}
 
 pub drop-take : (n k : ℕ) (l : List ℕ) → drop n (take (n + k) l) ≡ take k (drop n l)
@@ -21,3 +22,20 @@ part-front h l at n room =
     let x : List ℕ = take n (drop at h) in
     let k : length x ≡ n = length-take-le n (drop at h) (simp length-drop (omega arith)) in
     rw e (ap (λ (y : List ℕ). y ++ drop (length x) l) (take-length x) ∙ ap (λ (j : ℕ). x ++ drop j l) k)
+
+-- all of src, copied into the part of l from `at` on
+pub part-put : (l m src : List ℕ) (at : ℕ) → at + length src ≤ length l → m ≡ take (length src) src ++ drop (length src) (take (length l - at) (drop at l))
+    → putMid at (length l - at) l m ≡ sets l at src
+part-put l m src at room e =
+    let whole : take (length l - at) (drop at l) ≡ drop at l = take-all (length l - at) (drop at l) (simp length-drop (le-refl _)) in
+    let none : drop (length l - at) (drop at l) ≡ [] = drop-of-length-le (drop at l) {i = length l - at} (simp length-drop (le-refl _)) in
+    let put : putMid at (length l - at) l m ≡ take at l ++ (src ++ drop (at + length src) l) = simp (none, append-nil, e, whole, drop-drop, take-length) in
+    put ∙ sym (append-assoc (take at l) src (drop (at + length src) l)) ∙ sym (sets-eq src l at room)
+
+-- stores after stores, and stores at the front
+pub sets-append : (l : List ℕ) (i : ℕ) (a b : List ℕ) → sets (sets l i a) (i + length a) b ≡ sets l i (a ++ b)
+sets-append l i [] b = rw add-zero
+sets-append l i (x ∷ a) b = rw (add-suc, ← suc-add) (sets-append (set l i x) (suc i) a b)
+
+pub sets-front : (vs l : List ℕ) → length vs ≤ length l → sets l 0 vs ≡ vs ++ drop (length vs) l
+sets-front vs l room = sets-eq vs l 0 (omega arith) ∙ ap (λ (k : ℕ). vs ++ drop k l) (zero-add (length vs))

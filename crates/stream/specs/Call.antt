@@ -22,10 +22,14 @@ refused n s = record { state = s; told = refuses n; used = 0 }
 abbrev pub answered : {S M : Type 0} → Called S (Event M) → Seen S M
 answered c = record { state = c .state; told = told (c .event); used = c .used }
 
+-- what a reader is to be lent at least
+abbrev pub lentLeast : ℕ
+lentLeast = 255
+
 -- A reader tests 18, then 9 (under 255 bytes lent), then the piece
 abbrev pub called : {S M : Type 0} → (S → ℕ → Moved S (Event M)) → (S → Bool) → S → List ℕ → List ℕ → Seen S M
 called next inRange s piece lent =
-    cond (inRange s) (cond (ltb (length lent) 255) (refused 9 s) (answered (scan next s piece))) (refused 18 s)
+    cond (inRange s) (cond (ltb (length lent) lentLeast) (refused 9 s) (answered (scan next s piece))) (refused 18 s)
 
 -- the lent buffer afterwards: with a message its data at the front, the rest unchanged; with anything else as it was
 abbrev pub delivered : {M : Type 0} → (M → List ℕ) → Told M → List ℕ → List ℕ

@@ -8,6 +8,7 @@ use lib.Dec.{T}
 use lib.Pow.{areBytes}
 use Rattle.stream.specs.Event.{Event, message, Told, done, gives, refuses}
 use Rattle.stream.specs.Pieces.{Moved, Ran, calls, feed}
+use Rattle.stream.specs.Call.{lentLeast}
 use Rattle.stream.specs.Written.{written, ended, Each}
 use Rattle.stream.specs.Rule.{Placed, readings}
 use Rattle.stream.specs.Family.{Family, Call, Allowed, used, toldFrom, Serves}
@@ -42,7 +43,7 @@ module _ (F : Family) where
   ReadsBack =
       (m : F .Message) → F .Takes m
       → (room frame : List ℕ) (w : F .Written) (n : ℕ) → F .Writes m room w frame → F .wrote w ≡ some n
-      → (rest lent later : List ℕ) (r : F .Result) → 255 ≤ length lent → F .Steps (F .fresh) (take n frame ++ rest) lent r later
+      → (rest lent later : List ℕ) (r : F .Result) → lentLeast ≤ length lent → F .Steps (F .fresh) (take n frame ++ rest) lent r later
       → (F .seen r later .told ≡ gives (message m)) × (F .seen r later .used ≡ n)
 
   -- DEMAND 3. Any list of messages written one after another, handed over in any calls and stopped after any byte, the nth: what was told

@@ -4,7 +4,7 @@ use mathlib.Core.Option.{Option}
 use mathlib.Core.List.{List, [], _∷_, _++_}
 use lib.ListN.{length, take, drop}
 use Rattle.stream.specs.Event.{Event, Told, done, gives, refuses}
-use Rattle.stream.specs.Call.{Seen}
+use Rattle.stream.specs.Call.{Seen, lentLeast}
 use Rattle.stream.specs.Rule.{Placed}
 
 pub record Family : Type 1 where
@@ -52,7 +52,7 @@ module _ (F : Family) where
   -- any buffer of at least 255 bytes: every sequence of them that the promise of `step` allows
   abbrev pub Allowed : F .State → List (Call (F .Result)) → Type 0
   Allowed s [] = Unit {0}
-  Allowed s (c ∷ cs) = (255 ≤ length (c .lent)) × F .Steps s (c .piece) (c .lent) (c .result) (c .later) × Allowed (sees c .state) cs
+  Allowed s (c ∷ cs) = (lentLeast ≤ length (c .lent)) × F .Steps s (c .piece) (c .lent) (c .result) (c .later) × Allowed (sees c .state) cs
 
   -- the bytes that they used, which are handed over for good: of each piece the first ones
   abbrev pub used : List (Call (F .Result)) → List ℕ
@@ -72,5 +72,5 @@ pub data Serves (F : Family) : F .State → List (List ℕ) → List (Call (F .R
   turns : {s : F .State} {ps : List (List ℕ)} {cs : List (Call (F .Result))} → Serves F s ps cs → Serves F s ([] ∷ ps) cs
   -- a call on what is left of a piece, which may be nothing
   calls : {s : F .State} {ps : List (List ℕ)} {cs : List (Call (F .Result))} (p lent later : List ℕ) (r : F .Result)
-      → 255 ≤ length lent → F .Steps s p lent r later → Serves F (F .seen r later .state) (drop (F .seen r later .used) p ∷ ps) cs
+      → lentLeast ≤ length lent → F .Steps s p lent r later → Serves F (F .seen r later .state) (drop (F .seen r later .used) p ∷ ps) cs
       → Serves F s (p ∷ ps) (record { piece = p; lent = lent; result = r; later = later } ∷ cs)
