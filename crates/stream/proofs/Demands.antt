@@ -1,6 +1,6 @@
 -- The demands, for every family that shows its facts.
 -- Assumes nothing.
-use Prim.Native.Nat.{ℕ, zero, suc, _+_, _≤_, _<_}
+use Prim.Native.Nat.{ℕ, zero, suc, _+_, _≤_}
 use mathlib.Core.Path.{_≡_, refl, sym, ap, ap₂, _∙_, subst}
 use mathlib.Core.Bool.{Bool, true, false, cond}
 use mathlib.Core.Option.{Option, none, some}
@@ -9,7 +9,7 @@ use lib.ListN.{length, take, drop, length-drop, take-append-drop, drop-of-length
 use lib.Dec.{T, ltb}
 use lib.Pow.{areBytes}
 use native.Mathlib.Omega.{arith}
-use Rattle.stream.specs.Event.{Event, message, damage, Told, done, gives, refuses, told}
+use Rattle.stream.specs.Event.{Event, message, Told, done, gives, refuses, told}
 use Rattle.stream.specs.Pieces.{Moved, Called, scan}
 use Rattle.stream.specs.Call.{Seen, lentLeast, refused, answered, called}
 use Rattle.stream.specs.Written.{written, ended, Each}
@@ -21,7 +21,7 @@ use Rattle.stream.proofs.Run.{placedBefore, events, placed, placed-even
 use Rattle.stream.proofs.Loop.{scan-used, scan-uses, scan-none, scan-front, scan-keeps}
 use Rattle.stream.proofs.Written.{Reads, given, told-apart}
 use Rattle.stream.proofs.Call.{in-room}
-use Rattle.stream.proofs.Facts.{found, Follows, Facts}
+use Rattle.stream.proofs.Facts.{found, Facts}
 
 -- ---- what is told by different names is different
 

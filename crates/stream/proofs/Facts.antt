@@ -9,7 +9,7 @@ use lib.ListN.{length, take}
 use lib.Dec.{T}
 use lib.Pow.{areBytes}
 use Rattle.stream.specs.Event.{Event, message, gives}
-use Rattle.stream.specs.Pieces.{Moved, Called, scan}
+use Rattle.stream.specs.Pieces.{Moved, scan}
 use Rattle.stream.specs.Call.{called}
 use Rattle.stream.specs.Rule.{Placed}
 use Rattle.stream.specs.Family.{Family}

@@ -1,12 +1,11 @@
 -- How a family shows that its machine follows its rule: byte by byte, where `at` bytes came before.
 -- Assumes nothing.
-use Prim.Native.Nat.{ℕ, zero, suc, _+_}
+use Prim.Native.Nat.{ℕ, suc, _+_}
 use mathlib.Core.Path.{_≡_, refl, sym, ap, _∙_, subst}
 use mathlib.Core.Option.{Option, none, some}
-use mathlib.Core.List.{List, [], _∷_, _++_, cons≢nil}
+use mathlib.Core.List.{List, [], _∷_, cons≢nil}
 use lib.ListN.{length}
-use native.Mathlib.Nat.{zero-add, add-suc, suc-add}
-use native.Mathlib.Numerals.{add-one}
+use native.Mathlib.Nat.{zero-add}
 use native.Mathlib.Omega.{arith}
 use Rattle.stream.specs.Pieces.{Moved, Called, before, settle, scan}
 use Rattle.stream.specs.Rule.{Placed}

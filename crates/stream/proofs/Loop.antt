@@ -1,17 +1,17 @@
 -- What a loop over a piece has to keep so that it computes `scan`, and facts of every call.
 -- Assumes nothing.
-use Prim.Native.Nat.{ℕ, zero, suc, _+_, _≤_, _<_}
-use mathlib.Core.Path.{_≡_, refl, sym, ap, _∙_}
+use Prim.Native.Nat.{ℕ, suc, _+_, _≤_, _<_}
+use mathlib.Core.Path.{_≡_, refl, ap}
 use mathlib.Core.Option.{Option, none, some}
 use mathlib.Core.List.{List, [], _∷_, _++_}
-use lib.ListN.{length, take, drop, getD, drop-of-length-le}
+use lib.ListN.{length, take, getD, drop-of-length-le}
 use lib.Seq.{drop-cons}
 use lib.Dec.{T}
 use lib.Pow.{areBytes}
 use native.Mathlib.Numerals.{add-one}
 use native.Mathlib.Nat.{zero-add, suc-add, add-suc, add-zero}
 use native.Mathlib.Omega.{arith}
-use Rattle.stream.specs.Pieces.{Moved, Called, settle, scan, scanFrom}
+use Rattle.stream.specs.Pieces.{Moved, settle, scan, scanFrom}
 use Rattle.stream.proofs.Bytes.{bytes-head, bytes-tail}
 
 module _ {S E : Type 0} (next : S → ℕ → Moved S E) where

@@ -1,14 +1,14 @@
 -- What bytes come to in a machine, whatever the calls: the last state and every event. One call, and calls until a piece is used up, come to that.
 -- Assumes nothing.
-use Prim.Native.Nat.{ℕ, zero, suc, _+_, _≤_, _<_}
+use Prim.Native.Nat.{ℕ, zero, suc, _+_, _≤_}
 use mathlib.Core.Path.{_≡_, refl, sym, ap, _∙_}
 use mathlib.Core.Option.{Option, none, some}
-use mathlib.Core.List.{List, [], _∷_, _++_, map, flatten, append-nil, append-assoc}
+use mathlib.Core.List.{List, [], _∷_, _++_, map, flatten, append-nil}
 use lib.ListN.{length, take, drop, length-drop}
 use native.Mathlib.Nat.{add-suc, suc-add, add-zero}
 use native.Mathlib.Numerals.{add-one}
 use native.Mathlib.Omega.{arith}
-use Rattle.stream.specs.Pieces.{Moved, Called, Ran, before, settle, scan, calls, feed}
+use Rattle.stream.specs.Pieces.{Moved, Ran, before, settle, scan, calls, feed}
 use Rattle.stream.specs.Rule.{Placed}
 use Rattle.stream.specs.Demands.{PiecesDoNotMatter, UsedUpInTime}
 

@@ -1,13 +1,13 @@
 -- The demands, for any machine and for any family. A family's own demands are these at that family, and nothing else.
-use Prim.Native.Nat.{ℕ, _+_, _≤_, _<_}
+use Prim.Native.Nat.{ℕ, _≤_, _<_}
 use mathlib.Core.Path.{_≡_}
-use mathlib.Core.Option.{Option, none, some}
+use mathlib.Core.Option.{none, some}
 use mathlib.Core.List.{List, [], _∷_, _++_, map, flatten}
 use lib.ListN.{length, take}
 use lib.Dec.{T}
 use lib.Pow.{areBytes}
 use Rattle.stream.specs.Event.{Event, message, Told, done, gives, refuses}
-use Rattle.stream.specs.Pieces.{Moved, Ran, calls, feed}
+use Rattle.stream.specs.Pieces.{Moved, calls, feed}
 use Rattle.stream.specs.Call.{lentLeast}
 use Rattle.stream.specs.Written.{written, ended, Each}
 use Rattle.stream.specs.Rule.{Placed, readings}

@@ -1,0 +1,86 @@
+-- The facts that Fronius shows.
+-- Assumes nothing.
+use Prim.Native.Nat.{ℕ, _+_, _≤_}
+use mathlib.Core.Path.{_≡_, refl, ap}
+use mathlib.Core.Option.{some}
+use mathlib.Core.List.{List, [], _∷_, _++_}
+use lib.ListN.{length, take, getD, length-append}
+use lib.Seq.{take-append-seam, take-at, getD-at}
+use lib.Dec.{T, ltb}
+use lib.Pow.{areBytes}
+use borrow.Author.Tests.{le-ltb, eq-eqb, ne-eqb}
+use native.Mathlib.Nat.{mod-lt}
+use native.Mathlib.Omega.{arith}
+use Rattle.answers.proofs.Writing.{writes-frame, writes-nothing}
+use Rattle.stream.specs.Event.{message}
+use Rattle.stream.proofs.Bytes.{bytes-cons, bytes-append}
+use Rattle.stream.proofs.Call.{steps-seen, steps-keeps}
+use Rattle.stream.proofs.Facts.{Facts}
+use Rattle.stream.proofs.Follows.{follows-by}
+use Rattle.fronius.specs.Wire.{Message, Takes, dataMax, mark, total, checksum, body, wire, judged}
+use Rattle.fronius.specs.Rules.{frame, sized, sought, rule}
+use Rattle.fronius.specs.Machine.{next}
+use Rattle.fronius.specs.Machine as Machine
+use Rattle.fronius.specs.Reader.{inRange, header, join, shown}
+use Rattle.fronius.specs.Demands.{fronius}
+use Rattle.fronius.proofs.Range.{stays-in-range}
+use Rattle.fronius.proofs.Follows.{Rests, rule-found, fresh-rests}
+
+-- ---- the rule reads what is written
+
+module _ (m : Message) (t : Takes m) where
+  abbrev sum : ℕ
+  sum = checksum (length (m .bytes) ∷ body m)
+
+  framed : frame 4 (length (m .bytes)) (body m ++ (sum ∷ [])) ≡ some (record { event = message m; place = 4 + (length (m .bytes) + 4) })
+  unfolding frame judged
+  framed =
+      let n = length (m .bytes) in
+      let long : length (body m ++ (sum ∷ [])) ≡ n + 4 = simp length-append (omega arith) in
+      let first : take (n + 3) (body m ++ (sum ∷ [])) ≡ body m = take-at (body m) (sum ∷ []) (n + 3) (omega arith) in
+      let last : getD (body m ++ (sum ∷ [])) (n + 3) 0 ≡ sum = getD-at (body m) sum [] 0 (n + 3) (omega arith) in
+      rw (le-ltb (length (body m ++ (sum ∷ []))) (n + 4) (omega arith), first, last, eq-eqb sum sum refl)
+
+  read : rule tt (wire m) ≡ some (record { event = message m; place = length (wire m) })
+  unfolding sought sized
+  read =
+      let n = length (m .bytes) in
+      let small : n ≤ dataMax = t .fits in
+      let count : length (wire m) ≡ 4 + (n + 4) = simp length-append (omega arith) in
+      rw (ne-eqb n mark (λ e. omega arith), le-ltb mark n (omega arith), count) framed
+
+wire-bytes : (m : Message) → Takes m → T (areBytes (wire m))
+unfolding checksum
+wire-bytes m t =
+    let n = length (m .bytes) in
+    let fits : n ≤ dataMax = t .fits in
+    let rest : List ℕ = body m ++ (checksum (n ∷ body m) ∷ []) in
+    let sum : T (areBytes (checksum (n ∷ body m) ∷ [])) = bytes-cons (checksum (n ∷ body m)) [] (mod-lt (total (n ∷ body m)) (omega arith)) tt in
+    let parts : T (areBytes (body m)) =
+    bytes-cons (m .device) (m .number ∷ m .command ∷ m .bytes) (t .device)
+    (bytes-cons (m .number) (m .command ∷ m .bytes) (t .number) (bytes-cons (m .command) (m .bytes) (t .command) (t .bytes))) in
+    bytes-cons mark (mark ∷ mark ∷ n ∷ rest) (omega arith)
+    (bytes-cons mark (mark ∷ n ∷ rest) (omega arith)
+    (bytes-cons mark (n ∷ rest) (omega arith) (bytes-cons n rest (omega arith) (bytes-append (body m) (checksum (n ∷ body m) ∷ []) parts sum))))
+
+-- header and data make up the message
+joins : (m : Message) (rest : List ℕ) → join (header m) (m .bytes ++ rest) ≡ m
+joins m rest = ap {B = Message} (λ (l : List ℕ). record { device = m .device; number = m .number; command = m .command; bytes = l }) (take-append-seam (m .bytes) rest)
+
+pub facts : Facts fronius
+unfolding Machine.inRange
+facts = record {
+  next = next;
+  At = λ known. Rests;
+  at-start = fresh-rests;
+  follows = λ known s r bs g. follows-by (rule-found s r bs);
+  reads = λ known m t. read m t;
+  wire-bytes = wire-bytes;
+  inRange = inRange;
+  fresh-in-range = refl;
+  stays-in-range = stays-in-range;
+  steps = steps-seen next inRange header (λ m. m .bytes) shown join joins;
+  keeps = steps-keeps next inRange header (λ m. m .bytes) shown join joins;
+  writes = λ m lent later w n. writes-frame (ltb dataMax (length (m .bytes))) (wire m) lent later w n;
+  writes-nothing = λ m lent later w. writes-nothing (ltb dataMax (length (m .bytes))) (wire m) lent later w;
+}

@@ -1,0 +1,42 @@
+-- For each public call: two results, and two later contents of what was lent, that its promise allows are one.
+-- Assumes nothing.
+use Prim.Native.Nat.{ℕ}
+use mathlib.Core.Path.{_≡_, sym, ap, _∙_}
+use mathlib.Core.List.{List}
+use lib.ListN.{length}
+use lib.Dec.{ltb}
+use Rattle.answers.specs.declared.Written.{Written}
+use Rattle.answers.proofs.Writing.{writes-one}
+use Rattle.stream.specs.Call.{Seen}
+use Rattle.stream.proofs.Call.{steps-one}
+use Rattle.fronius.specs.Wire.{dataMax, wire}
+use Rattle.fronius.specs.Machine.{next}
+use Rattle.fronius.specs.Reader.{inRange, header, shown, IsFresh, IsStep}
+use Rattle.fronius.specs.Writer.{IsWritten}
+use Rattle.fronius.specs.declared.reader.Reader.{Reader}
+use Rattle.fronius.specs.declared.reader.Header.{Header}
+use Rattle.fronius.specs.declared.reader.Step.{Step}
+use Rattle.fronius.proofs.Judge.{told-alike}
+
+pub fresh-one : (r s : Reader) → IsFresh r → IsFresh s → r ≡ s
+fresh-one r s x y = x ∙ sym y
+
+-- a step that is shown alike is one
+shown-alike : (q r : Step) → shown q ≡ shown r → q ≡ r
+shown-alike q r e =
+    let state = ap (λ (v : Seen Reader Header). v .state) e in
+    let answer = told-alike (q .answer) (r .answer) (ap (λ (v : Seen Reader Header). v .told) e) in
+    let used = ap (λ (v : Seen Reader Header). v .used) e in
+    ap {B = Step} (λ (s : Reader). record { reader = s; answer = q .answer; used = q .used }) state
+    ∙ ap {B = Step} (λ a. record { reader = r .reader; answer = a; used = q .used }) answer
+    ∙ ap {B = Step} (λ (n : ℕ). record { reader = r .reader; answer = r .answer; used = n }) used
+
+pub step-one : (s : Reader) (piece lent a b : List ℕ) (q r : Step) → IsStep s piece lent q a → IsStep s piece lent r b → (q ≡ r) × (a ≡ b)
+step-one s piece lent a b q r x y =
+    let one = steps-one next inRange header (λ m. m .bytes) shown s piece lent a b q r x y in
+    (shown-alike q r (one .0), one .1)
+
+pub write-one : (device number command : ℕ) (bytes lent a b : List ℕ) (v w : Written) → IsWritten device number command bytes lent v a → IsWritten device number command bytes lent w b
+    → (v ≡ w) × (a ≡ b)
+write-one device number command bytes lent a b v w x y =
+    writes-one (ltb dataMax (length bytes)) (wire (record { device = device; number = number; command = command; bytes = bytes })) lent a b v w x y

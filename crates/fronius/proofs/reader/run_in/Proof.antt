@@ -1,0 +1,214 @@
+-- `reader::run_in`: after i bytes the whole call is the one that goes on in the state that the locals are, and that state is in range.
+-- Assumes nothing.
+use mathlib.Core.Path.{subst}
+use mathlib.Core.Option.{none, some}
+use mathlib.Core.List.{List}
+use lib.ListN.{length-set}
+use Rattle.stream.specs.Event.{Event}
+use Rattle.stream.specs.Pieces.{Called, scan, scanFrom}
+use Rattle.stream.proofs.Loop.{from-start, from-goes, from-tells, from-end}
+use Rattle.fronius.specs.Wire.{Message}
+use Rattle.fronius.specs.Machine.{moved, next}
+use Rattle.fronius.specs.declared.reader.Reader.{Reader}
+use Rattle.fronius.specs.declared.reader.Move.{Move}
+use Rattle.fronius.specs.declared.reader.Move.the-variants.{Count, Open, Keep, Close, Bad}
+use Rattle.fronius.proofs.Range.{Range, start, body, range-of, range-len, Asked, asked}
+use native.Mathlib.Omega.{arith}
+use Prim.Native.Nat.{ℕ, _+_, _-_, _<_, _≤_}
+use mathlib.Core.Path.{_≡_, refl, sym, _∙_, ap}
+use lib.ListN.{length, getD, set}
+use borrow.Author.Needs.{needs}
+use Rattle.fronius.proofs.reader.run_in.Statement.{statement}
+use Rattle.fronius.proofs.reader.run_in.Tie as tie
+
+abbrev Inv-loop : tie.InvT-loop
+Inv-loop stage count len held₀ piece stage₀ count₀ len₀ i₀ held stage' count' len' i =
+    (i ≤ length piece) × Range stage' count' len' × (length held ≡ length held₀)
+    × (scanFrom next (record { held = held; stage = stage'; count = count'; len = len' }) piece i ≡ scan next (record { held = held₀; stage = stage; count = count; len = len }) piece)
+
+abbrev μ-loop : tie.MeasureT-loop
+μ-loop stage count len held₀ piece stage₀ count₀ len₀ i₀ held stage' count' len' i = length piece - i
+
+-- where a byte's move is known: the loop's place, the state before the byte, the piece, how far, and the whole call
+abbrev at : tie.After-advance Inv-loop μ-loop → tie.At-loop Inv-loop μ-loop
+at c = c .before .before .before
+
+abbrev St : tie.After-advance Inv-loop μ-loop → Reader
+St c = let l = at c .loop in record { held = l .held; stage = l .stage; count = l .count; len = l .len }
+
+abbrev P : tie.After-advance Inv-loop μ-loop → List ℕ
+P c = at c .before .before .args .piece .now
+
+abbrev I : tie.After-advance Inv-loop μ-loop → ℕ
+I c = at c .loop .i
+
+abbrev Whole : tie.After-advance Inv-loop μ-loop → Called Reader (Event Message)
+Whole c = let a = at c .before .before .args in scan next (record { held = a .held .now; stage = a .stage; count = a .count; len = a .len }) (P c)
+
+-- what the move says of the state, and what the byte does
+asks : (c : tie.After-advance Inv-loop μ-loop) (m : Move) → c .advance .result ≡ m → Asked (at c .loop .stage) (at c .loop .count) (at c .loop .len) m
+asks c m e = subst (Asked (at c .loop .stage) (at c .loop .count) (at c .loop .len)) (sym (c .advance .ensures) ∙ e) (asked _ _ _ (getD (P c) (I c) 0) (at c .loop .inv .1))
+
+kept : (c : tie.After-advance Inv-loop μ-loop) → c .advance .result ≡ Keep → at c .loop .count < 130
+kept c e = let h = asks c Keep e in omega arith
+
+does : (c : tie.After-advance Inv-loop μ-loop) (m : Move) → c .advance .result ≡ m → next (St c) (getD (P c) (I c) 0) ≡ moved m (St c) (getD (P c) (I c) 0)
+unfolding next
+does c m e = ap (λ (x : Move). moved x (St c) (getD (P c) (I c) 0)) (sym (c .advance .ensures) ∙ e)
+
+again : (c : tie.After-advance Inv-loop μ-loop) (m : Move) (t : Reader) → c .advance .result ≡ m → moved m (St c) (getD (P c) (I c) 0) ≡ record { state = t; event = none }
+    → scanFrom next t (P c) (I c + 1) ≡ Whole c
+again c m t e f = sym (from-goes next (St c) t (P c) (I c) (c .before .before .loop-test .taken) (does c m e ∙ f)) ∙ at c .loop .inv .3
+
+tells : (c : tie.After-advance Inv-loop μ-loop) (m : Move) (x : Event Message) (t : Reader) → c .advance .result ≡ m → moved m (St c) (getD (P c) (I c) 0) ≡ record { state = t; event = some x }
+    → Whole c ≡ record { state = t; event = some x; used = I c + 1 }
+tells c m x t e f = sym (at c .loop .inv .3) ∙ from-tells next (St c) t x (P c) (I c) (c .before .before .loop-test .taken) (does c m e ∙ f)
+
+loop-holds : tie.Need-loop-holds Inv-loop μ-loop
+loop-holds c =
+    let a = c .before .args in (
+      omega arith,
+      range-of (a .stage) (a .count) (a .len) (c .before .pre .0),
+      refl,
+      from-start next (record { held = a .held .now; stage = a .stage; count = a .count; len = a .len }) (a .piece .now),
+    )
+
+shared-slice-read-b : tie.Need-shared-slice-read-b Inv-loop μ-loop
+shared-slice-read-b c = search needs
+
+advance-requires : tie.Need-advance-requires Inv-loop μ-loop
+advance-requires c κs = range-len _ _ _ (c .before .before .loop .inv .1)
+
+add-i : tie.Need-add-i Inv-loop μ-loop
+add-i c = search needs
+
+enum-known-m : tie.Need-enum-known-m Inv-loop μ-loop
+enum-known-m c = search needs
+
+loop-less : tie.Need-loop-less Inv-loop μ-loop
+loop-less c = search needs
+
+loop-again : tie.Need-loop-again Inv-loop μ-loop
+unfolding moved
+loop-again c =
+    let k = c .before .before .before in
+    let e = c .before .m .given .1 in
+    let h = asks k (Count _) e in
+    (omega arith, start (h .0) (h .1) (h .2), at k .loop .inv .2, again k (Count _) _ e refl)
+
+enum-known-m-2 : tie.Need-enum-known-m-2 Inv-loop μ-loop
+enum-known-m-2 c = search needs
+
+loop-less-2 : tie.Need-loop-less-2 Inv-loop μ-loop
+loop-less-2 c = search needs
+
+loop-again-2 : tie.Need-loop-again-2 Inv-loop μ-loop
+unfolding moved
+loop-again-2 c =
+    let k = c .before .before .before in
+    let e = c .before .m2 .given .1 in
+    (omega arith, body refl (asks k (Open _) e) (omega arith), at k .loop .inv .2, again k (Open _) _ e refl)
+
+enum-told : tie.Need-enum-told Inv-loop μ-loop
+enum-told c = search needs
+
+element-write-held : tie.Need-element-write-held Inv-loop μ-loop
+element-write-held c = let h = kept (c .before .before) (c .enum-told .given .1) in omega arith
+
+add-next : tie.Need-add-next Inv-loop μ-loop
+add-next c = let h = kept (c .before .before) (c .enum-told .given .1) in omega arith
+
+fill-requires : tie.Need-fill-requires Inv-loop μ-loop
+fill-requires c κs =
+    let k = c .before .before .before in
+    let h = asks k Keep (c .before .enum-told .given .1) in
+    (omega arith, h .1, omega arith, simp length-set (at k .loop .inv .2 ∙ at k .before .before .pre .1))
+
+sub-count : tie.Need-sub-count Inv-loop μ-loop
+sub-count c = c .fill .ensures .forward
+
+add-count : tie.Need-add-count Inv-loop μ-loop
+add-count c =
+    let h = kept (c .before .before .before .before) (c .before .before .enum-told .given .1) in
+    omega (arith, c .fill .ensures .room)
+
+loop-less-3 : tie.Need-loop-less-3 Inv-loop μ-loop
+loop-less-3 c = omega (arith, c .fill .ensures .forward, c .fill .ensures .within)
+
+loop-again-3 : tie.Need-loop-again-3 Inv-loop μ-loop
+unfolding moved
+loop-again-3 c =
+    let k = c .before .before .before .before in
+    let e = c .before .before .enum-told .given .1 in
+    let h = asks k Keep e in
+    let l = at k .loop in
+    let f = c .fill .ensures in
+    let later = c .fill .last .0 in
+    let j = c .fill .result in
+    let n = l .count + 1 + (j - (l .i + 1)) in (
+      f .within,
+      body (h .0) (h .1) (f .room),
+      f .sized ∙ simp length-set (l .inv .2),
+      ap (λ (s : ℕ). scanFrom next (record { held = later; stage = s; count = n; len = l .len }) (P k) j) (h .0)
+          ∙ sym (f .goes)
+          ∙ ap (λ (s : ℕ). scanFrom next (record { held = set (l .held) (l .count) (getD (P k) (I k) 0); stage = s; count = l .count + 1; len = l .len }) (P k) (l .i + 1)) (sym (h .0))
+          ∙ again k Keep _ e refl,
+    )
+
+enum-told-2 : tie.Need-enum-told-2 Inv-loop μ-loop
+enum-told-2 c = search needs
+
+returns : tie.Need-returns Inv-loop μ-loop
+unfolding moved
+returns c =
+    let k = c .before .before in
+    let e = c .enum-told2 .given .1 in
+    record { sized = at k .loop .inv .2; fits = asks k Close e .1; scanned = tells k Close _ _ e refl }
+
+enum-told-3 : tie.Need-enum-told-3 Inv-loop μ-loop
+enum-told-3 c = search needs
+
+returns-2 : tie.Need-returns-2 Inv-loop μ-loop
+unfolding moved
+returns-2 c =
+    let k = c .before .before in
+    record { sized = at k .loop .inv .2; fits = tt; scanned = tells k Bad _ _ (c .enum-told3 .given .1) refl }
+
+returns-3 : tie.Need-returns-3 Inv-loop μ-loop
+returns-3 c =
+    let l = c .before .loop in
+    record {
+      sized = l .inv .2;
+      fits = tt;
+      scanned = sym (l .inv .3) ∙ from-end next (record { held = l .held; stage = l .stage; count = l .count; len = l .len }) (c .before .before .before .args .piece .now) (l .i) (c .loop-test .left);
+    }
+
+pub run-in-spec : {M : Type 1} → statement M
+run-in-spec =
+    tie.close
+    (tie.spec
+    Inv-loop
+    μ-loop
+    loop-holds
+    shared-slice-read-b
+    advance-requires
+    add-i
+    enum-known-m
+    loop-less
+    loop-again
+    enum-known-m-2
+    loop-less-2
+    loop-again-2
+    enum-told
+    element-write-held
+    add-next
+    fill-requires
+    sub-count
+    add-count
+    loop-less-3
+    loop-again-3
+    enum-told-2
+    returns
+    enum-told-3
+    returns-2
+    returns-3)

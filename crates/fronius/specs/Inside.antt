@@ -1,0 +1,72 @@
+-- What the inner functions of the reader promise. No public promise cites these.
+use Prim.Native.Nat.{ℕ, _+_, _-_, _≤_}
+use mathlib.Core.Path.{_≡_}
+use mathlib.Core.Option.{Option, none, some}
+use mathlib.Core.List.{List, [], _∷_, _++_}
+use lib.ListN.{length, take, drop}
+use Rattle.stream.specs.Event.{Event, damage}
+use Rattle.stream.specs.Event as Event
+use Rattle.stream.specs.Call.{retold}
+use Rattle.stream.specs.Pieces.{scan, scanFrom}
+use Rattle.fronius.specs.Wire.{Message, dataMax, mark, judged}
+use Rattle.fronius.specs.Machine.{filling, next}
+use Rattle.fronius.specs.Reader.{told, header}
+use Rattle.fronius.specs.declared.reader.Answer.{Answer}
+use Rattle.fronius.specs.declared.reader.Answer.the-variants.{Done, Message as Read, Damaged, Refused}
+use Rattle.fronius.specs.declared.reader.Ran.{Ran}
+use Rattle.fronius.specs.declared.reader.End.{End}
+use Rattle.fronius.specs.declared.reader.End.the-variants.{UsedUp, Closed, BadLength}
+
+-- `fill`: the bytes from i up to j are taken into the body, and the call goes on from there
+pub record Filled (len : ℕ) (piece : List ℕ) (i count : ℕ) (held : List ℕ) (j : ℕ) (later : List ℕ) : Type 0 where
+  pub forward : i ≤ j
+  pub within : j ≤ length piece
+  pub room : count + (j - i) ≤ 3 + len
+  pub sized : length later ≡ length held
+  pub goes : scanFrom next (filling len count held) piece i ≡ scanFrom next (filling len (count + (j - i)) later) piece j
+
+-- the event that a frame is, by its length, the checksum that came and the held bytes
+abbrev pub judgedFrame : ℕ → ℕ → List ℕ → Option (Event Message)
+judgedFrame len sum held = some (judged len (take (3 + len) held) sum)
+
+-- the event that the end of a run is
+abbrev pub eventOf : End → List ℕ → Option (Event Message)
+eventOf UsedUp held = none
+eventOf (Closed len sum) held = judgedFrame len sum held
+eventOf BadLength held = some (damage 7)
+
+-- a length that was read is one that a message has
+abbrev pub Fits : End → Type 0
+Fits UsedUp = Unit {0}
+Fits (Closed len sum) = len ≤ dataMax
+Fits BadLength = Unit {0}
+
+-- `run_in`: the scan of the piece
+pub record Runs (stage count len : ℕ) (held piece : List ℕ) (r : Ran) (later : List ℕ) : Type 0 where
+  pub sized : length later ≡ length held
+  pub fits : Fits (r .end)
+  pub scanned :
+      scan next (record { held = held; stage = stage; count = count; len = len }) piece
+      ≡ record { state = record { held = later; stage = r .stage; count = r .count; len = r .len }; event = eventOf (r .end) later; used = r .used }
+
+-- `judge`: the answer tells the event
+abbrev pub JudgedAs : Option (Event Message) → Answer → Type 0
+JudgedAs event answer = told answer ≡ retold header (Event.told event)
+
+-- a length that is told is one that a message has
+abbrev pub Small : Answer → Type 0
+Small Done = Unit {0}
+Small (Read h) = h .len ≤ dataMax
+Small (Damaged what) = Unit {0}
+Small (Refused why) = Unit {0}
+
+-- `deliver`: the lent buffer afterwards
+abbrev pub given : Answer → List ℕ → List ℕ → List ℕ
+given Done held lent = lent
+given (Read h) held lent = take (h .len) (drop 3 held) ++ drop (h .len) lent
+given (Damaged what) held lent = lent
+given (Refused why) held lent = lent
+
+-- `put_head`: all that stands before the data
+abbrev pub head : ℕ → ℕ → ℕ → ℕ → List ℕ
+head len device number command = mark ∷ mark ∷ mark ∷ len ∷ device ∷ number ∷ command ∷ []

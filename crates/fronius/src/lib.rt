@@ -1,0 +1,9 @@
+// Fronius, the protocol of the interface card: reader and writer.
+pub mod reader;
+pub mod writer;
+
+pub use reader::Answer;
+pub use reader::Header;
+pub use reader::Reader;
+pub use reader::Step;
+pub use writer::write;

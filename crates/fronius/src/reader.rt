@@ -1,0 +1,356 @@
+// The streaming reader: bytes go in by pieces, messages and damages come out, whatever the pieces.
+use answers::Damage;
+use answers::Refusal;
+ghost use Prim.Native.Nat.{min, _+_, _*_, _≤_};
+ghost use mathlib.Core.Path.{_≡_};
+ghost use mathlib.Core.Bool.{true};
+ghost use mathlib.Core.List.{_∷_, _++_};
+ghost use lib.ListN.{length, take, drop};
+ghost use Rattle.stream.specs.Call.{lentLeast};
+ghost use Rattle.fronius.specs.Wire.{dataMax, total, checksum};
+ghost use Rattle.fronius.specs.Machine.{bodyMax, advanceOf, inRange};
+ghost use Rattle.fronius.specs.Reader.{IsFresh, IsStep};
+ghost use Rattle.fronius.specs.Inside.{Filled, Fits, Runs, eventOf, judgedFrame, JudgedAs, Small, given};
+
+// The limits, named here because the reader's own constants cannot size its own array.
+const HEADER: usize = 3;
+
+const DATA: usize = 127;
+
+const BODY: usize = HEADER + DATA;
+
+// What the bytes read so far have led to. A field that the stage does not use is 0; what `held` has beyond `count` is left over and means nothing.
+pub struct Reader {
+    // device, number, command and data, as far as they have come
+    pub held: [u8; BODY],
+    // AT_START or IN_BODY
+    pub stage: u8,
+    // at the start the successive 80s seen, 3 where the length is awaited; in the body the bytes held
+    pub count: usize,
+    // in the body the length read
+    pub len: usize,
+}
+
+// A message, but for its data, which stand at the front of the lent buffer.
+pub struct Header {
+    pub device: u8,
+    pub number: u8,
+    pub command: u8,
+    // how many data bytes there are
+    pub len: usize,
+}
+
+pub enum Answer {
+    // the piece is used up
+    Done,
+    Message(Header),
+    Damaged(Damage),
+    Refused(Refusal),
+}
+
+// What a call hands back: the reader to go on with, the answer, and how many bytes of the piece were used.
+pub struct Step {
+    pub reader: Reader,
+    pub answer: Answer,
+    pub used: usize,
+}
+
+// The two stages.
+const AT_START: u8 = 0;
+
+const IN_BODY: u8 = 1;
+
+// How many 80s make a start.
+const STARTS: usize = 3;
+
+// What one byte asks of the reader.
+enum Move {
+    // so many successive 80s
+    Count(usize),
+    // a body of so many data bytes begins
+    Open(usize),
+    // one more byte of the body
+    Keep,
+    // the checksum, which ends the frame
+    Close,
+    // a length that no message has
+    Bad,
+}
+
+// The one place that decides.
+fn advance(stage: u8, count: usize, len: usize, b: u8) -> Move
+    requires { ⌜ len ≤ dataMax ⌝ }
+    ensures { λ r. ⌜ r ≡ advanceOf stage count len b ⌝ }
+{
+    if stage == AT_START {
+        if count < STARTS {
+            if b == 0x80 {
+                return Move::Count(count + 1);
+            }
+            return Move::Count(0);
+        }
+        if b == 0x80 {
+            return Move::Count(STARTS);
+        }
+        if b < 0x80 {
+            return Move::Open(b as usize);
+        }
+        return Move::Bad;
+    }
+    if count < HEADER + len {
+        return Move::Keep;
+    }
+    Move::Close
+}
+
+// The first `n` bytes of `s` added up.
+fn total_of(s: &[u8], n: usize) -> usize
+    requires { ⌜ (n ≤ length (now s)) × (n ≤ bodyMax) ⌝ }
+    ensures { λ r. ⌜ (r ≡ total (take n (now (s .entry)))) × (r ≤ 256 * bodyMax) ⌝ }
+{
+    let mut sum: usize = 0;
+    let mut i: usize = 0;
+    while i < n {
+        sum += s[i] as usize;
+        i += 1;
+    }
+    sum
+}
+
+// The checksum over a length and the body of that length at the front of `s`.
+pub(crate) fn checksum_of(len: usize, s: &[u8]) -> u8
+    requires { ⌜ (3 + len ≤ length (now s)) × (len ≤ dataMax) ⌝ }
+    ensures { λ r. ⌜ r ≡ checksum (len ∷ take (3 + len) (now (s .entry))) ⌝ }
+{
+    let sum = len + total_of(s, HEADER + len);
+    (sum % 256) as u8
+}
+
+// How a run over a piece ended.
+enum End {
+    UsedUp,
+    // a frame of so many data bytes is held, and this is the checksum that came
+    Closed { len: usize, sum: u8 },
+    BadLength,
+}
+
+// What a run hands back beside the held bytes.
+struct Ran {
+    stage: u8,
+    count: usize,
+    len: usize,
+    used: usize,
+    end: End,
+}
+
+// The smaller of two numbers.
+fn least(a: usize, b: usize) -> usize
+    ensures { λ r. ⌜ r ≡ min a b ⌝ }
+{
+    if a < b { a } else { b }
+}
+
+// Takes in bytes of the body from `from` on, which need no look, as many as it still lacks and the piece has; gives the place after the last.
+fn fill(held: &mut [u8; BODY], count: usize, len: usize, piece: &[u8], from: usize) -> usize
+    requires { ⌜ (count ≤ 3 + len) × (len ≤ dataMax) × (from ≤ length (now piece)) × (length (now held) ≡ bodyMax) ⌝ }
+    ensures { λ r. ⌜ Filled len (now (piece .entry)) from count (now (held .entry)) r (now (held .exit)) ⌝ }
+{
+    let stop = from + least(piece.len() - from, HEADER + len - count);
+    let mut at = count;
+    let mut i = from;
+    while i < stop {
+        held[at] = piece[i];
+        at += 1;
+        i += 1;
+    }
+    i
+}
+
+// The piece, byte by byte, up to the end of a frame, a bad length or the end of the piece.
+fn run_in(stage: u8, count: usize, len: usize, held: &mut [u8; BODY], piece: &[u8]) -> Ran
+    requires { ⌜ (inRange stage count len ≡ true) × (length (now held) ≡ bodyMax) ⌝ }
+    ensures { λ r. ⌜ Runs stage count len (now (held .entry)) (now (piece .entry)) r (now (held .exit)) ⌝ }
+{
+    let mut stage = stage;
+    let mut count = count;
+    let mut len = len;
+    let mut i: usize = 0;
+    while i < piece.len() {
+        let b = piece[i];
+        let m = advance(stage, count, len, b);
+        i += 1;
+        match m {
+            Move::Count(n) => {
+                count = n;
+            }
+            Move::Open(n) => {
+                stage = IN_BODY;
+                count = 0;
+                len = n;
+            }
+            Move::Keep => {
+                held[count] = b;
+                let next = count + 1;
+                let j = fill(held, next, len, piece, i);
+                count = next + (j - i);
+                i = j;
+            }
+            Move::Close => {
+                let end = End::Closed { len: len, sum: b };
+                return Ran {
+                    stage: AT_START,
+                    count: 0,
+                    len: 0,
+                    used: i,
+                    end: end,
+                };
+            }
+            Move::Bad => {
+                let end = End::BadLength;
+                return Ran {
+                    stage: AT_START,
+                    count: 0,
+                    len: 0,
+                    used: i,
+                    end: end,
+                };
+            }
+        }
+    }
+    let end = End::UsedUp;
+    Ran {
+        stage: stage,
+        count: count,
+        len: len,
+        used: i,
+        end: end,
+    }
+}
+
+// Whether stage, count and length are in the stage's range.
+fn in_range(stage: u8, count: usize, len: usize) -> bool
+    ensures { λ r. ⌜ r ≡ inRange stage count len ⌝ }
+{
+    if stage == AT_START {
+        if count <= STARTS { len == 0 } else { false }
+    } else {
+        if stage == IN_BODY {
+            if len <= DATA {
+                count <= HEADER + len
+            } else {
+                false
+            }
+        } else {
+            false
+        }
+    }
+}
+
+// What a frame comes to, by its length, the checksum that came and the held bytes.
+fn judge_frame(len: usize, sum: u8, held: &[u8]) -> Answer
+    requires { ⌜ (len ≤ dataMax) × (length (now held) ≡ bodyMax) ⌝ }
+    ensures { λ r. ⌜ JudgedAs (judgedFrame len sum (now (held .entry))) r ⌝ }
+{
+    let right = checksum_of(len, held);
+    if sum == right {
+        let header = Header {
+            device: held[0],
+            number: held[1],
+            command: held[2],
+            len: len,
+        };
+        return Answer::Message(header);
+    }
+    Answer::Damaged(Damage::WrongSum)
+}
+
+// What the end of a run comes to.
+fn judge(end: End, held: &[u8]) -> Answer
+    requires { ⌜ Fits end × (length (now held) ≡ bodyMax) ⌝ }
+    ensures { λ r. ⌜ JudgedAs (eventOf end (now (held .entry))) r ⌝ }
+{
+    match end {
+        End::UsedUp => Answer::Done,
+        End::Closed { len, sum } => judge_frame(len, sum, held),
+        End::BadLength => Answer::Damaged(Damage::WrongCount),
+    }
+}
+
+// A message's data go to the front of the lent buffer.
+fn deliver(answer: Answer, held: &[u8], lent: &mut [u8])
+    requires { ⌜ Small answer × (length (now held) ≡ bodyMax) × (lentLeast ≤ length (now lent)) ⌝ }
+    ensures { λ _. ⌜ now (lent .exit) ≡ given answer (now (held .entry)) (now (lent .entry)) ⌝ }
+{
+    match answer {
+        Answer::Message(h) => {
+            let n = h.len;
+            let end = HEADER + n;
+            bytes::copy(&held[HEADER..end], lent);
+        }
+        Answer::Done => {}
+        Answer::Damaged(_) => {}
+        Answer::Refused(_) => {}
+    }
+}
+
+impl Reader {
+    // device, number, command
+    pub const HEADER: usize = HEADER;
+    // the data that a message has at most
+    pub const DATA: usize = DATA;
+    // both: what a reader holds
+    pub const BODY: usize = BODY;
+    // what a host lends at least, whatever the family
+    pub const LENT: usize = 255;
+
+    // The reader before the first byte.
+    pub fn fresh() -> Self
+        ensures { λ r. ⌜ IsFresh r ⌝ }
+    {
+        Reader {
+            held: [0; BODY],
+            stage: AT_START,
+            count: 0,
+            len: 0,
+        }
+    }
+
+    // One call on a piece: up to the first message or damage, or to the piece's end. With a message its data stand at the front of `lent`.
+    pub fn step(mut self, piece: &[u8], lent: &mut [u8]) -> Step
+        ensures { λ r. ⌜ IsStep self (now (piece .entry)) (now (lent .entry)) r (now (lent .exit)) ⌝ }
+    {
+        let stage = self.stage;
+        let count = self.count;
+        let len = self.len;
+        if in_range(stage, count, len) {
+            if lent.len() < Reader::LENT {
+                let answer = Answer::Refused(Refusal::NoRoom);
+                return Step {
+                    reader: self,
+                    answer: answer,
+                    used: 0,
+                };
+            }
+            let ran = run_in(stage, count, len, &mut self.held, piece);
+            self.stage = ran.stage;
+            self.count = ran.count;
+            self.len = ran.len;
+            let used = ran.used;
+            let end = ran.end;
+            let answer = judge(end, &self.held);
+            deliver(answer, &self.held, lent);
+            Step {
+                reader: self,
+                answer: answer,
+                used: used,
+            }
+        } else {
+            let answer = Answer::Refused(Refusal::Spoilt);
+            Step {
+                reader: self,
+                answer: answer,
+                used: 0,
+            }
+        }
+    }
+}
