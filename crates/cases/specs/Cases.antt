@@ -1,12 +1,19 @@
 -- Numbers on both sides of a limit: P1 to P12, with document 01's literals on the right.
+use Prim.Native.Nat.{ℕ}
 use mathlib.Core.Path.{_≡_}
-use mathlib.Core.Bool.{true}
-use mathlib.Core.Option.{some}
+use mathlib.Core.Bool.{true, false}
+use mathlib.Core.Option.{Option, some}
 use mathlib.Core.List.{List, [], _∷_}
-use Rattle.stream.specs.Event.{message}
+use lib.IntN.{pos, negℤ}
+use lib.Ieee.{binary64, ofInt}
+use Rattle.stream.specs.Event.{Event, message}
+use Rattle.stream.specs.Rule.{Placed}
 use Rattle.fcs.specs.Fcs.{fcsOf, sent}
 use Rattle.fronius.specs.Wire as FroniusWire
 use Rattle.fronius.specs.Rules as FroniusRules
+use Rattle.fronius_values.specs.Measured as Measured
+use Rattle.fronius_values.specs.Reading as Reading
+use Rattle.fronius_values.specs.declared.reading.Reading.the-variants.{Power}
 use Rattle.cases.specs.Case.{Case, case, Hold, inOrderFrom}
 
 -- P4's message, get version, and P5's, a power
@@ -16,6 +23,10 @@ getVersion = record { device = 0; number = 0; command = 0x01; bytes = [] }
 abbrev pub power : FroniusWire.Message
 power = record { device = 0x01; number = 0x01; command = 0x10; bytes = 0x04 ∷ 0xD2 ∷ 0x00 ∷ [] }
 
+-- a rule gives this message, at its last byte, the nth
+abbrev pub reads : {M : Type 0} → M → ℕ → Option (Placed (Event M))
+reads m n = some (record { event = message m; place = n })
+
 abbrev pub cases : List Case
 cases =
     -- P1: the ComLynx ping of L1: checksum state 6E86, sent 79 91
@@ -23,17 +34,22 @@ cases =
     ∷ case 1 (sent (0xFF ∷ 0x03 ∷ 0x00 ∷ 0x02 ∷ 0x11 ∷ 0xFF ∷ 0x00 ∷ 0x15 ∷ [])) (0x79 ∷ 0x91 ∷ [])
     -- P4: get version, written and read
     ∷ case 4 (FroniusWire.wire getVersion) (0x80 ∷ 0x80 ∷ 0x80 ∷ 0x00 ∷ 0x00 ∷ 0x00 ∷ 0x01 ∷ 0x01 ∷ [])
-    ∷ case 4
-    (FroniusRules.rule tt (0x80 ∷ 0x80 ∷ 0x80 ∷ 0x00 ∷ 0x00 ∷ 0x00 ∷ 0x01 ∷ 0x01 ∷ []))
-    (some (record { event = message getVersion; place = 8 }))
-    -- P5: the frame of a power
-    ∷ case 5
-    (FroniusRules.rule tt (0x80 ∷ 0x80 ∷ 0x80 ∷ 0x03 ∷ 0x01 ∷ 0x01 ∷ 0x10 ∷ 0x04 ∷ 0xD2 ∷ 0x00 ∷ 0xEB ∷ []))
-    (some (record { event = message power; place = 11 }))
+    ∷ case 4 (FroniusRules.rule tt (0x80 ∷ 0x80 ∷ 0x80 ∷ 0x00 ∷ 0x00 ∷ 0x00 ∷ 0x01 ∷ 0x01 ∷ [])) (reads getVersion 8)
+    -- P5: the frame of a power, and what it reads: 1,234 W
+    ∷ case 5 (FroniusRules.rule tt (0x80 ∷ 0x80 ∷ 0x80 ∷ 0x03 ∷ 0x01 ∷ 0x01 ∷ 0x10 ∷ 0x04 ∷ 0xD2 ∷ 0x00 ∷ 0xEB ∷ [])) (reads power 11)
+    ∷ case 5 (Reading.readingOf (power .device) (power .command) (power .bytes)) (Reading.tells 0 (some (Power (ofInt binary64 (pos 1_234)))))
+    -- P6: 1,234 thousandths
+    ∷ case 6 (Measured.thousandthsOf (0x04 ∷ 0xD2 ∷ 0xFD ∷ []) false) (Measured.tells 0 (pos 1_234))
+    -- P7: 655,350,000,000,000,000 thousandths, unsigned
+    ∷ case 7 (Measured.thousandthsOf (0xFF ∷ 0xFF ∷ 0x0A ∷ []) false) (Measured.tells 0 (pos 655_350_000_000_000_000))
+    -- P8: -32,768,000 signed, 32,768,000 unsigned
+    ∷ case 8 (Measured.thousandthsOf (0x80 ∷ 0x00 ∷ 0x00 ∷ []) true) (Measured.tells 0 (negℤ (pos 32_768_000)))
+    ∷ case 8 (Measured.thousandthsOf (0x80 ∷ 0x00 ∷ 0x00 ∷ []) false) (Measured.tells 0 (pos 32_768_000))
+    -- P9: exponent 0B: 15; FC: 16
+    ∷ case 9 (Measured.thousandthsOf (0x04 ∷ 0xD2 ∷ 0x0B ∷ []) false) (Measured.tells 15 (pos 0))
+    ∷ case 9 (Measured.thousandthsOf (0x04 ∷ 0xD2 ∷ 0xFC ∷ []) false) (Measured.tells 16 (pos 0))
     -- P12: P4 with two more 80 in front reads as P4
-    ∷ case 12
-    (FroniusRules.rule tt (0x80 ∷ 0x80 ∷ 0x80 ∷ 0x80 ∷ 0x80 ∷ 0x00 ∷ 0x00 ∷ 0x00 ∷ 0x01 ∷ 0x01 ∷ []))
-    (some (record { event = message getVersion; place = 10 }))
+    ∷ case 12 (FroniusRules.rule tt (0x80 ∷ 0x80 ∷ 0x80 ∷ 0x80 ∷ 0x80 ∷ 0x00 ∷ 0x00 ∷ 0x00 ∷ 0x01 ∷ 0x01 ∷ [])) (reads getVersion 10)
     ∷ []
 
 -- THE ONE STATEMENT: all of them hold, and they stand in order

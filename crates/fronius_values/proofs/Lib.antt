@@ -1,0 +1,7 @@
+mod Tens
+mod Laws
+mod Tests
+mod Commands
+mod Nearest
+pub mod Demands
+pub mod One
