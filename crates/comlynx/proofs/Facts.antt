@@ -1,0 +1,41 @@
+-- The facts that ComLynx shows.
+-- Assumes nothing.
+use Prim.Native.Nat.{ℕ}
+use mathlib.Core.Path.{_≡_, refl, ap}
+use mathlib.Core.List.{List, _++_}
+use lib.ListN.{length}
+use lib.Seq.{take-append-seam}
+use lib.Dec.{ltb}
+use Rattle.answers.proofs.Writing.{writes-frame, writes-nothing}
+use Rattle.stream.proofs.Call.{steps-seen, steps-keeps}
+use Rattle.stream.proofs.Facts.{Facts}
+use Rattle.comlynx.specs.Wire.{Message, dataMax, wire}
+use Rattle.comlynx.specs.Machine.{next}
+use Rattle.comlynx.specs.Machine as Machine
+use Rattle.comlynx.specs.Reader.{inRange, header, join, shown}
+use Rattle.comlynx.specs.Demands.{comlynx}
+use Rattle.comlynx.proofs.Range.{stays-in-range}
+use Rattle.comlynx.proofs.Follows.{At, at-fresh, follows}
+use Rattle.comlynx.proofs.Frame.{reads, wire-bytes}
+
+-- header and data make up the message
+joins : (m : Message) (rest : List ℕ) → join (header m) (m .bytes ++ rest) ≡ m
+joins m rest = ap {B = Message} (λ (l : List ℕ). record { source = m .source; destination = m .destination; kind = m .kind; bytes = l }) (take-append-seam (m .bytes) rest)
+
+pub facts : Facts comlynx
+unfolding Machine.inRange
+facts = record {
+  next = next;
+  At = At;
+  at-start = at-fresh;
+  follows = follows;
+  reads = λ known m t. reads m known (t .fits);
+  wire-bytes = wire-bytes;
+  inRange = inRange;
+  fresh-in-range = refl;
+  stays-in-range = stays-in-range;
+  steps = steps-seen next inRange header (λ m. m .bytes) shown join joins;
+  keeps = steps-keeps next inRange header (λ m. m .bytes) shown join joins;
+  writes = λ m lent later w n. writes-frame (ltb dataMax (length (m .bytes))) (wire m) lent later w n;
+  writes-nothing = λ m lent later w. writes-nothing (ltb dataMax (length (m .bytes))) (wire m) lent later w;
+}

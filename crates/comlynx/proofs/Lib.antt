@@ -1,0 +1,14 @@
+pub mod Moves
+pub mod Range
+pub mod Fill
+pub mod Judge
+pub mod Stuffing
+pub mod Follows
+pub mod Frame
+pub mod Only
+pub mod Store
+pub mod Writing
+pub mod Address
+pub mod Facts
+pub mod Demands
+pub mod One

@@ -1,0 +1,93 @@
+-- The range of each stage, and that every byte keeps it.
+-- Assumes nothing.
+use Prim.Native.Nat.{ℕ, _+_, _≤_, _<_}
+use mathlib.Core.Path.{_≡_, refl}
+use mathlib.Core.Bool.{Bool, true, false, cond}
+use lib.Dec.{eqb, ltb, leb}
+use borrow.Author.Tests.{le-leb, eq-eqb, ne-eqb, ltb-true, leb-true, eqb-true, eqb-false}
+use native.Mathlib.Omega.{arith}
+use Rattle.comlynx.specs.Wire.{flag, escape}
+use Rattle.comlynx.specs.Machine as Machine
+use Rattle.comlynx.specs.Machine.{bodyMax, tooMany, keepOf, advanceOf, moved, next}
+use Rattle.comlynx.specs.Reader.{inRange}
+use Rattle.comlynx.specs.declared.reader.Reader.{Reader}
+use Rattle.comlynx.specs.declared.reader.Move.{Move}
+use Rattle.comlynx.specs.declared.reader.Move.the-variants.{Skip, Open, Mark, Spoil, Keep, Over, Close, Fail}
+
+pub data Range (stage count : ℕ) : Type 0 where
+  outside : stage ≡ 0 → count ≡ 0 → Range stage count
+  within : 0 < stage → stage ≤ 3 → count ≤ tooMany → Range stage count
+
+pub false-true : {A : Type 0} → false ≡ true → A
+false-true e = let z : _≡_ {A = ℕ} 0 1 = cc in absurd (omega arith)
+
+eqb-zero : (n : ℕ) → eqb n 0 ≡ false → 0 < n
+eqb-zero n e = omega (arith, eqb-false n 0 e)
+
+pub range-of : (stage count : ℕ) → Machine.inRange stage count ≡ true → Range stage count
+unfolding Machine.inRange
+range-of stage count e = go (eqb stage 0) (leb stage 3) refl refl e
+  where
+    go : (a b : Bool) → eqb stage 0 ≡ a → leb stage 3 ≡ b → cond a (eqb count 0) (cond b (leb count tooMany) false) ≡ true → Range stage count
+    go true b p q h = outside (eqb-true stage 0 p) (eqb-true count 0 h)
+    go false true p q h = within (eqb-zero stage p) (leb-true stage 3 q) (leb-true count tooMany h)
+    go false false p q h = false-true h
+
+pub in-range : (stage count : ℕ) → Range stage count → Machine.inRange stage count ≡ true
+unfolding Machine.inRange
+in-range stage count (outside p q) = rw (eq-eqb stage 0 p, eq-eqb count 0 q)
+in-range stage count (within p q r) = rw (ne-eqb stage 0 (λ e. omega arith), le-leb stage 3 q, le-leb count tooMany r)
+
+pub range-count : (stage count : ℕ) → Range stage count → count ≤ tooMany
+range-count stage count (outside p q) = omega arith
+range-count stage count (within p q r) = r
+
+-- what is known where a state is asked this: a byte is kept only where there is room
+abbrev pub Asked : ℕ → Move → Type 0
+Asked count Skip = Unit {0}
+Asked count Open = Unit {0}
+Asked count Mark = Unit {0}
+Asked count Spoil = Unit {0}
+Asked count (Keep v) = count < bodyMax
+Asked count Over = Unit {0}
+Asked count Close = Unit {0}
+Asked count Fail = Unit {0}
+
+by-cond : (n : ℕ) (t : Bool) (a b : Move) → Asked n a → Asked n b → Asked n (cond t a b)
+by-cond n true a b p q = p
+by-cond n false a b p q = q
+
+keep-asked : (n v : ℕ) → Asked n (keepOf n v)
+unfolding keepOf
+keep-asked n v = go (ltb n bodyMax) refl
+  where
+    go : (t : Bool) → ltb n bodyMax ≡ t → Asked n (cond t (Keep v) Over)
+    go true e = ltb-true n bodyMax e
+    go false e = tt
+
+pub asked : (stage n b : ℕ) → Asked n (advanceOf stage n b)
+unfolding advanceOf
+asked stage n b =
+    by-cond n (eqb stage 0) _ _ (by-cond n (eqb b flag) Open Skip tt tt)
+    (by-cond n (eqb stage 1) _ _
+    (by-cond n (eqb b flag) _ _ (by-cond n (eqb n 0) Skip Close tt tt) (by-cond n (eqb b escape) Mark _ tt (keep-asked n b)))
+    (by-cond n (eqb stage 2) _ _
+    (by-cond n (eqb b flag) Fail _ tt (by-cond n (eqb b 0x5E) _ _ (keep-asked n flag) (by-cond n (eqb b 0x5D) _ Spoil (keep-asked n escape) tt)))
+    (by-cond n (eqb b flag) Fail Skip tt tt)))
+
+pub stays-in-range : (s : Reader) (b : ℕ) → b < 256 → inRange s ≡ true → inRange (next s b .state) ≡ true
+unfolding next moved
+stays-in-range s b lt e = go (advanceOf (s .stage) (s .count) b) (asked (s .stage) (s .count) b)
+  where
+    few : s .count ≤ tooMany
+    few = range-count (s .stage) (s .count) (range-of (s .stage) (s .count) e)
+
+    go : (m : Move) → Asked (s .count) m → inRange (moved m s .state) ≡ true
+    go Skip h = e
+    go Open h = in-range 1 0 (within (omega arith) (omega arith) (omega arith))
+    go Mark h = in-range 2 (s .count) (within (omega arith) (omega arith) few)
+    go Spoil h = in-range 3 (s .count) (within (omega arith) (omega arith) few)
+    go (Keep v) h = in-range 1 (s .count + 1) (within (omega arith) (omega arith) (omega arith))
+    go Over h = in-range 1 tooMany (within (omega arith) (omega arith) (omega arith))
+    go Close h = in-range 1 0 (within (omega arith) (omega arith) (omega arith))
+    go Fail h = in-range 1 0 (within (omega arith) (omega arith) (omega arith))

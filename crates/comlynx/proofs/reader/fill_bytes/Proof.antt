@@ -1,0 +1,68 @@
+use Rattle.comlynx.specs.Inside.{Filled}
+use Rattle.comlynx.proofs.Fill.{filled-none, filled-one, filled-more, plain-of}
+use native.Mathlib.Omega.{arith}
+use Prim.Native.Nat.{_+_, _-_, _≤_}
+use mathlib.Core.Path.{_≡_}
+use borrow.Author.Needs.{needs}
+use Rattle.comlynx.proofs.reader.fill_bytes.Statement.{statement}
+use Rattle.comlynx.proofs.reader.fill_bytes.Tie as tie
+
+abbrev Inv-loop : tie.InvT-loop
+Inv-loop held₀ count piece from stop at₀ i₀ held at i = (i ≤ stop) × (at ≡ count + (i - from)) × Filled piece from count held₀ i held
+
+abbrev μ-loop : tie.MeasureT-loop
+μ-loop held₀ count piece from stop at₀ i₀ held at i = stop - i
+
+loop-holds : tie.Need-loop-holds Inv-loop μ-loop
+loop-holds c =
+    let a = c .args in
+    (omega arith, omega arith, filled-none (a .piece .now) (a .from) (a .count) (a .held .now) (omega arith) (omega arith))
+
+shared-slice-read-b : tie.Need-shared-slice-read-b Inv-loop μ-loop
+shared-slice-read-b c = search needs
+
+element-write-held : tie.Need-element-write-held Inv-loop μ-loop
+element-write-held c =
+    let l = c .before .before .before .loop in
+    omega (arith, l .inv .2 .forward, l .inv .2 .sized)
+
+add-at : tie.Need-add-at Inv-loop μ-loop
+add-at c =
+    let l = c .before .before .before .loop in
+    omega (arith, l .inv .2 .room)
+
+add-i : tie.Need-add-i Inv-loop μ-loop
+add-i c = search needs
+
+loop-less : tie.Need-loop-less Inv-loop μ-loop
+loop-less c = search needs
+
+loop-again : tie.Need-loop-again Inv-loop μ-loop
+loop-again c =
+    let l = c .before .before .before .loop in
+    let a = c .before .before .before .before .args in
+    let f = l .inv .2 in
+    let one = filled-one (a .piece .now) (l .i) (l .at) (l .held) (omega arith) (omega (arith, f .forward)) (plain-of _ (c .if1 .left)) in
+    (omega arith, omega (arith, f .forward), filled-more (a .piece .now) (a .from) (a .count) (a .held .now) (l .i) (l .held) (l .at) _ _ (l .inv .1) f one)
+
+returns : tie.Need-returns Inv-loop μ-loop
+returns c = (c .before .loop .inv .0, c .before .loop .inv .2)
+
+returns-2 : tie.Need-returns-2 Inv-loop μ-loop
+returns-2 c = (c .before .before .before .loop .inv .0, c .before .before .before .loop .inv .2)
+
+pub fill-bytes-spec : {M : Type 1} → statement M
+fill-bytes-spec =
+    tie.close
+    (tie.spec
+    Inv-loop
+    μ-loop
+    loop-holds
+    shared-slice-read-b
+    element-write-held
+    add-at
+    add-i
+    loop-less
+    loop-again
+    returns
+    returns-2)

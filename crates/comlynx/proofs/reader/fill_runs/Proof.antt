@@ -1,0 +1,70 @@
+use Rattle.comlynx.specs.Inside.{Filled}
+use Rattle.comlynx.proofs.Fill.{filled-none, filled-more}
+use native.Mathlib.Omega.{arith}
+use Prim.Native.Nat.{_+_, _-_, _≤_}
+use mathlib.Core.Path.{_≡_, _∙_}
+use borrow.Author.Needs.{needs}
+use Rattle.comlynx.proofs.reader.fill_runs.Statement.{statement}
+use Rattle.comlynx.proofs.reader.fill_runs.Tie as tie
+
+abbrev Inv-loop : tie.InvT-loop
+Inv-loop held₀ count piece from stop at₀ i₀ held at i = (i ≤ stop) × (at ≡ count + (i - from)) × Filled piece from count held₀ i held
+
+abbrev μ-loop : tie.MeasureT-loop
+μ-loop held₀ count piece from stop at₀ i₀ held at i = stop - i
+
+loop-holds : tie.Need-loop-holds Inv-loop μ-loop
+loop-holds c =
+    let a = c .before .args in
+    (omega arith, omega arith, filled-none (a .piece .now) (a .from) (a .count) (a .held .now) (omega arith) (omega arith))
+
+sub-loop : tie.Need-sub-loop Inv-loop μ-loop
+sub-loop c = search needs
+
+plain-requires : tie.Need-plain-requires Inv-loop μ-loop
+plain-requires c κs = search needs
+
+take-in-requires : tie.Need-take-in-requires Inv-loop μ-loop
+take-in-requires c κs =
+    let l = c .before .before .before .before .loop in
+    let f = l .inv .2 in
+    (omega (arith, f .forward), omega arith, f .sized ∙ c .before .before .before .before .before .before .pre .3, c .before .before .plain .ensures (c .before .if1 .taken))
+
+add-at : tie.Need-add-at Inv-loop μ-loop
+add-at c = omega (arith, c .take-in .ensures .room)
+
+add-i : tie.Need-add-i Inv-loop μ-loop
+add-i c = search needs
+
+loop-less : tie.Need-loop-less Inv-loop μ-loop
+loop-less c = search needs
+
+loop-again : tie.Need-loop-again Inv-loop μ-loop
+loop-again c =
+    let l = c .before .before .before .before .before .loop in
+    let a = c .before .before .before .before .before .before .before .args in
+    let f = l .inv .2 in
+    (omega arith, omega (arith, f .forward), filled-more (a .piece .now) (a .from) (a .count) (a .held .now) (l .i) (l .held) (l .at) _ _ (l .inv .1) f (c .take-in .ensures))
+
+returns : tie.Need-returns Inv-loop μ-loop
+returns c = (c .before .loop .inv .0, c .before .loop .inv .2)
+
+returns-2 : tie.Need-returns-2 Inv-loop μ-loop
+returns-2 c = (c .before .before .before .loop .inv .0, c .before .before .before .loop .inv .2)
+
+pub fill-runs-spec : {M : Type 1} → statement M
+fill-runs-spec =
+    tie.close
+    (tie.spec
+    Inv-loop
+    μ-loop
+    loop-holds
+    sub-loop
+    plain-requires
+    take-in-requires
+    add-at
+    add-i
+    loop-less
+    loop-again
+    returns
+    returns-2)

@@ -1,0 +1,141 @@
+use Rattle.comlynx.specs.Reader.{told}
+use borrow.Author.Tests.{not-true, not-false}
+use Rattle.comlynx.specs.Rules.{sized, begins}
+use Rattle.comlynx.specs.declared.reader.Header.{Header}
+use Rattle.comlynx.specs.declared.reader.Answer.the-variants.{Message as Read}
+use Rattle.comlynx.proofs.Judge.{sized-bounds, heldHeader, judged-length, judged-start, judged-size, judged-sum, judged-message}
+use native.Mathlib.Omega.{arith}
+use Prim.Native.Nat.{ℕ, _-_, _≤_}
+use mathlib.Core.Path.{_≡_, sym, _∙_, ap}
+use mathlib.Core.Bool.{true}
+use lib.ListN.{getD}
+use borrow.Author.Needs.{needs}
+use Rattle.comlynx.proofs.reader.judge.Statement.{statement}
+use Rattle.comlynx.proofs.reader.judge.Tie as tie
+
+-- what each test told, where it held
+abbrev start : tie.Else1 → tie.Start
+start c = c .before .before .before
+
+fits : (c : tie.Else1) → sized (start c .args .count) ≡ true
+fits c = sym (c .before .sized .ensures) ∙ not-false _ (c .if1 .left)
+
+starts : (c : tie.Else2) → begins (start (c .before .before) .args .held .now) ≡ true
+starts c = sym (c .before .begins .ensures) ∙ not-false _ (c .if2 .left)
+
+bounds : (c : tie.Else1) → (10 ≤ start c .args .count) × (start c .args .count ≤ 265)
+bounds c = sized-bounds (start c .args .count) (fits c)
+
+less-ten : (n : ℕ) → n - 10 ≡ n - 8 - 2
+less-ten n = omega arith
+
+size : (c : tie.Else3) → getD (start (c .before .before .before .before .before) .args .held .now) 6 0 ≡ start (c .before .before .before .before .before) .args .count - 10
+size c = sym (c .before .wide .ensures) ∙ c .if3 .left ∙ sym (less-ten _)
+
+-- the header that was made
+read : (c : tie.After-shared-slice-known7)
+    → (let s = start (c .before .before .before .before .before .before .before .before .before .before .before .before .before .before) in
+    record { source = c .before .before .before .before .word .result; destination = c .before .word2 .result; kind = getD (s .args .held .now) 7 0; len = s .args .count - 8 - 2 }
+    ≡ heldHeader (s .args .count - 10) (s .args .held .now))
+read c = rw (c .before .before .before .before .word .ensures, c .before .word2 .ensures, less-ten (start (c .before .before .before .before .before .before .before .before .before .before .before .before .before .before) .args .count))
+
+sized-requires : tie.Need-sized-requires
+sized-requires c κs = search needs
+
+returns : tie.Need-returns
+returns c =
+    let s = c .before .before .before in
+    judged-length (s .args .count) (s .args .low) (s .args .high) (s .args .held .now) (s .pre) (sym (c .before .sized .ensures) ∙ not-true _ (c .if1 .taken))
+
+begins-requires : tie.Need-begins-requires
+begins-requires c κs = search needs
+
+returns-2 : tie.Need-returns-2
+returns-2 c =
+    let k = c .before .before in
+    let s = start k in
+    judged-start (s .args .count) (s .args .low) (s .args .high) (s .args .held .now) (s .pre) (fits k) (sym (c .before .begins .ensures) ∙ not-true _ (c .if2 .taken))
+
+sub-len : tie.Need-sub-len
+sub-len c = let b = bounds (c .before .before) in omega arith
+
+sub-len-2 : tie.Need-sub-len-2
+sub-len-2 c = let b = bounds (c .before .before) in omega arith
+
+shared-slice-read-wide : tie.Need-shared-slice-read-wide
+shared-slice-read-wide c = search needs
+
+wide-requires : tie.Need-wide-requires
+wide-requires c κs = search needs
+
+returns-3 : tie.Need-returns-3
+returns-3 c =
+    let k = c .before .before .before in
+    let s = start (k .before .before) in
+    judged-size (s .args .count) (s .args .low) (s .args .high) (s .args .held .now) (s .pre) (fits (k .before .before)) (starts k) (λ e. c .if3 .taken (c .before .wide .ensures ∙ e ∙ less-ten (s .args .count)))
+
+ends-requires : tie.Need-ends-requires
+ends-requires c κs =
+    let k = c .before .before .before .before .before in
+    let b = bounds k in
+    (omega arith, b .1, start k .pre)
+
+returns-4 : tie.Need-returns-4
+returns-4 c =
+    let k = c .before .before in
+    let j = k .before .before .before in
+    let s = start (j .before .before) in
+    judged-sum (s .args .count) (s .args .low) (s .args .high) (s .args .held .now) (s .pre) (fits (j .before .before)) (starts j) (size k) (sym (c .before .ends .ensures) ∙ not-true _ (c .if4 .taken))
+
+shared-slice-read-word : tie.Need-shared-slice-read-word
+shared-slice-read-word c = search needs
+
+shared-slice-read-word-2 : tie.Need-shared-slice-read-word-2
+shared-slice-read-word-2 c = search needs
+
+word-requires : tie.Need-word-requires
+word-requires c κs = search needs
+
+shared-slice-read-word-3 : tie.Need-shared-slice-read-word-3
+shared-slice-read-word-3 c = search needs
+
+shared-slice-read-word-4 : tie.Need-shared-slice-read-word-4
+shared-slice-read-word-4 c = search needs
+
+word-requires-2 : tie.Need-word-requires-2
+word-requires-2 c κs = search needs
+
+shared-slice-read-t15 : tie.Need-shared-slice-read-t15
+shared-slice-read-t15 c = search needs
+
+returns-5 : tie.Need-returns-5
+returns-5 c =
+    let q = c .before .before .before .before .before .before .before in
+    let k = q .before .before in
+    let j = k .before .before .before in
+    let s = start (j .before .before) in
+    ap (λ (h : Header). told (Read h)) (read c) ∙ judged-message (s .args .count) (s .args .low) (s .args .high) (s .args .held .now) (s .pre) (fits (j .before .before)) (starts j) (size k) (sym (q .before .ends .ensures) ∙ not-false _ (q .if4 .left))
+
+pub judge-spec : {M : Type 1} → statement M
+judge-spec =
+    tie.close
+    (tie.spec
+    sized-requires
+    returns
+    begins-requires
+    returns-2
+    sub-len
+    sub-len-2
+    shared-slice-read-wide
+    wide-requires
+    returns-3
+    ends-requires
+    returns-4
+    shared-slice-read-word
+    shared-slice-read-word-2
+    word-requires
+    shared-slice-read-word-3
+    shared-slice-read-word-4
+    word-requires-2
+    shared-slice-read-t15
+    returns-5)

@@ -1,0 +1,107 @@
+-- ComLynx as a family, and what is demanded of it: as of every family, and what is its own.
+use Prim.Native.Nat.{ℕ, _+_, _≤_, _<_}
+use mathlib.Core.Path.{_≡_}
+use mathlib.Core.Bool.{Bool, true, false, cond, _||_}
+use mathlib.Core.Option.{some}
+use mathlib.Core.List.{List, [], _∷_, _++_}
+use lib.ListN.{length}
+use lib.Dec.{T, eqb}
+use lib.Pow.{areBytes}
+use Rattle.answers.specs.Written.{lengthOf}
+use Rattle.answers.specs.declared.Written.{Written}
+use Rattle.answers.specs.Answer.{answer}
+use Rattle.stream.specs.Event.{message}
+use Rattle.stream.specs.Call.{seenBy}
+use Rattle.stream.specs.Family.{Family}
+use Rattle.stream.specs.Demands as Demands
+use Rattle.comlynx.specs.Wire.{Message, Takes, dataMax, body, flag, escape, stuffed, wire}
+use Rattle.comlynx.specs.Rules.{judge, rule}
+use Rattle.comlynx.specs.Machine.{fresh}
+use Rattle.comlynx.specs.Reader.{join, shown, IsStep}
+use Rattle.comlynx.specs.Writer.{IsWritten}
+use Rattle.comlynx.specs.Meaning.{addressOf, wordOf}
+use Rattle.comlynx.specs.declared.reader.Reader.{Reader}
+use Rattle.comlynx.specs.declared.reader.Step.{Step}
+use Rattle.comlynx.specs.declared.meaning.Address.{Address}
+
+-- what is known is whether a flag was just seen: at the start none was; after an event the flag that settled it was
+abbrev pub comlynx : Family
+comlynx = record {
+  Message = Message;
+  Takes = Takes;
+  wire = wire;
+  Known = Bool;
+  atStart = false;
+  afterEvent = true;
+  rule = rule;
+  Written = Written;
+  Writes = λ m. IsWritten (m .source) (m .destination) (m .kind) (m .bytes);
+  wrote = lengthOf;
+  State = Reader;
+  fresh = fresh;
+  Result = Step;
+  Steps = IsStep;
+  seen = seenBy join shown;
+}
+
+abbrev pub Accepts : Type 0
+Accepts = Demands.Accepts comlynx
+
+abbrev pub ReadsBack : Type 0
+ReadsBack = Demands.ReadsBack comlynx
+
+abbrev pub Handed : Type 0
+Handed = Demands.Handed comlynx
+
+abbrev pub InPieces : Type 0
+InPieces = Demands.InPieces comlynx
+
+abbrev pub UsedUp : Type 0
+UsedUp = Demands.UsedUp comlynx
+
+abbrev pub Different : Type 0
+Different = Demands.Different comlynx
+
+abbrev pub Kept : Type 0
+Kept = Demands.Kept comlynx
+
+abbrev pub NeverSpoilt : Type 0
+NeverSpoilt = Demands.NeverSpoilt comlynx
+
+-- ---- its own
+
+-- a stretch: no flag is among its bytes
+abbrev pub Stretch : List ℕ → Type 0
+Stretch [] = Unit {0}
+Stretch (b ∷ bs) = (b ≡ flag → ⊥) × Stretch bs
+
+-- a stretch of bytes is accepted only if it is the stuffing of that message's body, and the message is one that the writer takes
+abbrev pub Sound : Type 0
+Sound = (w : List ℕ) (m : Message) → Stretch w → T (areBytes w) → judge w ≡ message m → Takes m × (w ≡ stuffed (body m))
+
+-- a stretch that is not empty is judged at the flag that closes it, and shown once: reading goes on after that flag, which opens the next
+abbrev pub ShownOnce : Type 0
+ShownOnce =
+    (known : Bool) (w rest : List ℕ) → Stretch w → 0 < length w
+    → rule known (flag ∷ (w ++ (flag ∷ rest))) ≡ some (record { event = judge w; place = length w + 2 })
+
+-- how many bytes stuffing adds
+abbrev pub special : List ℕ → ℕ
+special [] = 0
+special (b ∷ bs) = cond (eqb b flag || eqb b escape) 1 0 + special bs
+
+-- the exact length of a frame, and 532 bytes always hold one
+abbrev pub Room : Type 0
+Room =
+    (m : Message) → length (m .bytes) ≤ dataMax
+    → (length (wire m) ≡ 12 + length (m .bytes) + special (body m)) × (length (wire m) ≤ 532)
+
+-- an address's parts and back: each way undoes the other
+abbrev pub ThereAndBack : Type 0
+ThereAndBack =
+    ((word : ℕ) → word < 65536 → wordOf (addressOf word) ≡ answer 0 (word ∷ []))
+    × ((a : Address) (word : ℕ) → a .node < 256 → wordOf a ≡ answer 0 (word ∷ []) → addressOf word ≡ a)
+
+-- 11 FF is every node of network 1, subnet 1
+abbrev pub EveryNode : Type 0
+EveryNode = addressOf 0x11FF ≡ record { network = 1; subnet = 1; node = 255 }

@@ -1,0 +1,85 @@
+-- What the inner functions promise. No public promise cites these.
+use Prim.Native.Nat.{ℕ, _+_, _-_, _≤_, _<_}
+use mathlib.Core.Path.{_≡_}
+use mathlib.Core.Bool.{Bool, _&&_}
+use mathlib.Core.Option.{Option, none, some}
+use mathlib.Core.List.{List, [], _∷_, _++_}
+use lib.ListN.{length, take, drop, getD}
+use lib.Seq.{sets}
+use lib.Dec.{eqb}
+use Rattle.stream.specs.Event.{Event, damage}
+use Rattle.stream.specs.Event as Event
+use Rattle.stream.specs.Call.{retold}
+use Rattle.stream.specs.Pieces.{scan, scanFrom}
+use Rattle.comlynx.specs.Wire.{Message, dataMax, flag, escape, stuffed}
+use Rattle.comlynx.specs.Rules.{judged}
+use Rattle.comlynx.specs.Machine.{bodyMax, inside, closed, next}
+use Rattle.comlynx.specs.Reader.{told, header}
+use Rattle.comlynx.specs.declared.reader.Answer.{Answer}
+use Rattle.comlynx.specs.declared.reader.Answer.the-variants.{Done, Message as Read, Damaged, Refused}
+use Rattle.comlynx.specs.declared.reader.Ran.{Ran}
+use Rattle.comlynx.specs.declared.reader.End.{End}
+use Rattle.comlynx.specs.declared.reader.End.the-variants.{UsedUp, Closed, Broken}
+
+-- `plain`: neither of the two bytes that mean something, from `at` on for n places
+abbrev pub Plain : ℕ → Type 0
+Plain b = (b ≡ flag → ⊥) × (b ≡ escape → ⊥)
+
+abbrev pub AllPlain : List ℕ → ℕ → ℕ → Type 0
+AllPlain s at n = (j : ℕ) → j < n → Plain (getD s (at + j) 0)
+
+-- `fill`: the bytes from i up to j are taken into the stretch, and the call goes on from there
+pub record Filled (piece : List ℕ) (i count : ℕ) (held : List ℕ) (j : ℕ) (later : List ℕ) : Type 0 where
+  pub forward : i ≤ j
+  pub within : j ≤ length piece
+  pub room : count + (j - i) ≤ bodyMax
+  pub sized : length later ≡ length held
+  pub goes : scanFrom next (inside count held) piece i ≡ scanFrom next (inside (count + (j - i)) later) piece j
+
+-- the event that the end of a run is
+abbrev pub eventOf : End → List ℕ → Option (Event Message)
+eventOf UsedUp held = none
+eventOf (Closed count) held = some (closed count held)
+eventOf Broken held = some (damage 2)
+
+-- `run_in`: the scan of the piece
+pub record Runs (stage count : ℕ) (held piece : List ℕ) (r : Ran) (later : List ℕ) : Type 0 where
+  pub sized : length later ≡ length held
+  pub scanned :
+      scan next (record { held = held; stage = stage; count = count }) piece
+      ≡ record { state = record { held = later; stage = r .stage; count = r .count }; event = eventOf (r .end) later; used = r .used }
+
+-- the last two of the first `count` held bytes are those that are due
+abbrev pub due : ℕ → ℕ → ℕ → List ℕ → Bool
+due count low high held = eqb (getD held (count - 2) 0) low && eqb (getD held (count - 1) 0) high
+
+-- `judge`: the answer tells the event
+abbrev pub JudgedAs : Event Message → Answer → Type 0
+JudgedAs event answer = told answer ≡ retold header (Event.told (some event))
+
+abbrev pub Judges : ℕ → ℕ → ℕ → List ℕ → Answer → Type 0
+Judges count low high held = JudgedAs (judged count (due count low high held) (take count held))
+
+-- a length that is told is one that a message has
+abbrev pub Small : Answer → Type 0
+Small Done = Unit {0}
+Small (Read h) = h .len ≤ dataMax
+Small (Damaged what) = Unit {0}
+Small (Refused why) = Unit {0}
+
+-- `deliver`: the lent buffer afterwards
+abbrev pub given : Answer → List ℕ → List ℕ → List ℕ
+given Done held lent = lent
+given (Read h) held lent = take (h .len) (drop 8 held) ++ drop (h .len) lent
+given (Damaged what) held lent = lent
+given (Refused why) held lent = lent
+
+-- ---- the writer
+
+-- `put` and `put_stuffed`: bytes are stored stuffed from `at` on, and the place after them is told
+abbrev pub Stuffs : List ℕ → ℕ → List ℕ → ℕ → List ℕ → Type 0
+Stuffs bytes at lent r later = (r ≡ at + length (stuffed bytes)) × (later ≡ sets lent at (stuffed bytes))
+
+-- `put_frame`: flag, stuffed body, flag
+abbrev pub framed : List ℕ → List ℕ → List ℕ → List ℕ
+framed first bytes last = flag ∷ (stuffed ((first ++ bytes) ++ last) ++ (flag ∷ []))

@@ -1,0 +1,8 @@
+pub mod Wire
+pub mod Rules
+pub mod Machine
+pub mod Reader
+pub mod Writer
+pub mod Meaning
+pub mod Inside
+pub mod Demands

@@ -1,0 +1,73 @@
+-- Reading ComLynx, with no machine: from the bytes that remain, and whether a flag was just seen, the first message or damage, and the bytes used
+-- up to and with the flag that settles it.
+use Prim.Native.Nat.{ℕ, _+_, _-_}
+use mathlib.Core.Bool.{Bool, true, false, cond, _&&_}
+use mathlib.Core.Option.{Option, none, some}
+use mathlib.Core.List.{List, [], _∷_, _++_}
+use lib.ListN.{length, getD}
+use lib.Dec.{eqb, leb}
+use Rattle.fcs.specs.Fcs.{agrees}
+use Rattle.stream.specs.Event.{Event, message, damage}
+use Rattle.stream.specs.Rule.{Placed}
+use Rattle.comlynx.specs.Wire.{Message, messageOf, flag, escape}
+
+-- ---- one whole stretch, the bytes between two successive flags
+
+-- b in front of the bytes, if there are any
+abbrev pub front : ℕ → Option (List ℕ) → Option (List ℕ)
+front b none = none
+front b (some bs) = some (b ∷ bs)
+
+-- the body that the bytes of a stretch stand for; none where a 7D is not followed inside the stretch by 5E or 5D.
+-- The first argument says whether a 7D stands right before the bytes
+abbrev pub unstuffed : Bool → List ℕ → Option (List ℕ)
+unstuffed false [] = some []
+unstuffed true [] = none
+unstuffed false (b ∷ bs) = cond (eqb b escape) (unstuffed true bs) (front b (unstuffed false bs))
+unstuffed true (b ∷ bs) =
+    cond (eqb b 0x5E) (front flag (unstuffed false bs))
+    (cond (eqb b 0x5D) (front escape (unstuffed false bs)) none)
+
+-- it has 10 to 265 bytes
+abbrev pub sized : ℕ → Bool
+sized n = leb 10 n && leb n 265
+
+-- it begins FF 03
+abbrev pub begins : List ℕ → Bool
+begins bs = eqb (getD bs 0 0) 0xFF && eqb (getD bs 1 0) 0x03
+
+-- what the body bs of n bytes comes to, `right` saying whether its checksum agrees: 10 to 265 bytes, else 3; it begins FF 03, else 4;
+-- size equals its length less 10, else 5; the checksum agrees, else 6
+unfoldable pub judged : ℕ → Bool → List ℕ → Event Message
+judged n right bs =
+    cond (sized n)
+    (cond (begins bs) (cond (eqb (getD bs 6 0) (n - 10)) (cond right (message (messageOf bs)) (damage 6)) (damage 5)) (damage 4))
+    (damage 3)
+
+-- before all these: every 7D is followed inside the stretch by 5E or 5D, else 2
+abbrev pub judgedBody : Option (List ℕ) → Event Message
+judgedBody none = damage 2
+judgedBody (some bs) = judged (length bs) (agrees bs) bs
+
+unfoldable pub judge : List ℕ → Event Message
+judge stretch = judgedBody (unstuffed false stretch)
+
+-- ---- one stretch after another, where `at` bytes were used before
+
+-- in a stretch of which `came` has come: the next flag closes it, and opens the one after it; an empty one gives nothing
+unfoldable pub within : ℕ → List ℕ → List ℕ → Option (Placed (Event Message))
+within at came [] = none
+within at came (b ∷ bs) =
+    cond (eqb b flag)
+    (cond (eqb (length came) 0) (within (at + 1) [] bs) (some (record { event = judge came; place = at + 1 })))
+    (within (at + 1) (came ++ (b ∷ [])) bs)
+
+-- bytes before the first flag are ignored
+unfoldable pub before : ℕ → List ℕ → Option (Placed (Event Message))
+before at [] = none
+before at (b ∷ bs) = cond (eqb b flag) (within (at + 1) [] bs) (before (at + 1) bs)
+
+-- THE RULE, by whether a flag was just seen: at the start none was; after an event its flag was
+abbrev pub rule : Bool → List ℕ → Option (Placed (Event Message))
+rule false bs = before 0 bs
+rule true bs = within 0 [] bs

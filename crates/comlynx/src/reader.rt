@@ -1,0 +1,509 @@
+// The streaming reader: bytes go in by pieces, messages and damages come out, whatever the pieces.
+use answers::Damage;
+use answers::Refusal;
+ghost use Prim.Native.Nat.{min, _+_, _-_, _*_, _≤_};
+ghost use mathlib.Core.Path.{_≡_};
+ghost use mathlib.Core.Bool.{true};
+ghost use lib.ListN.{length};
+ghost use Rattle.stream.specs.Call.{lentLeast};
+ghost use Rattle.comlynx.specs.Rules.{sized, begins};
+ghost use Rattle.comlynx.specs.Machine.{bodyMax, keepOf, advanceOf, inRange};
+ghost use Rattle.comlynx.specs.Reader.{IsFresh, IsStep};
+ghost use Rattle.comlynx.specs.Inside.{AllPlain, Filled, Runs, due, Judges, Small, given};
+
+// The limits, named here because the reader's own constants cannot size its own array.
+const HEADER: usize = 8;
+
+const DATA: usize = 255;
+
+// The checksum's two bytes.
+const SUM: usize = 2;
+
+const BODY: usize = HEADER + DATA + SUM;
+
+// What the bytes read so far have led to. A field that the stage does not use is 0; what `held` has beyond `count` is left over and means nothing.
+pub struct Reader {
+    // the unstuffed bytes of the stretch, as far as they have come
+    pub held: [u8; BODY],
+    // BEFORE, INSIDE, ESCAPED or BROKEN
+    pub stage: u8,
+    // how many bytes are held; TOO_MANY where there were more than it holds
+    pub count: usize,
+}
+
+// A message, but for its data, which stand at the front of the lent buffer.
+pub struct Header {
+    pub source: u16,
+    pub destination: u16,
+    // the type byte
+    pub kind: u8,
+    // how many data bytes there are
+    pub len: usize,
+}
+
+pub enum Answer {
+    // the piece is used up
+    Done,
+    Message(Header),
+    Damaged(Damage),
+    Refused(Refusal),
+}
+
+// What a call hands back: the reader to go on with, the answer, and how many bytes of the piece were used.
+pub struct Step {
+    pub reader: Reader,
+    pub answer: Answer,
+    pub used: usize,
+}
+
+// The stages: before the first flag; in a stretch; after its escape; in a stretch with a broken pair.
+const BEFORE: u8 = 0;
+
+const INSIDE: u8 = 1;
+
+const ESCAPED: u8 = 2;
+
+const BROKEN: u8 = 3;
+
+// The count of a stretch that has more bytes than a body may have.
+const TOO_MANY: usize = BODY + 1;
+
+// The two bytes that mean something, and what follows the escape where they are meant themselves.
+pub(crate) const FLAG: u8 = 0x7e;
+
+pub(crate) const ESCAPE: u8 = 0x7d;
+
+pub(crate) const FLAG_PAIR: u8 = 0x5e;
+
+pub(crate) const ESCAPE_PAIR: u8 = 0x5d;
+
+// How a body begins.
+pub(crate) const FIRST: u8 = 0xff;
+
+pub(crate) const SECOND: u8 = 0x03;
+
+// What one byte asks of the reader.
+enum Move {
+    // nothing
+    Skip,
+    // a stretch begins
+    Open,
+    // the escape
+    Mark,
+    // a broken pair
+    Spoil,
+    // one more byte of the body
+    Keep(u8),
+    // one more than there is room for
+    Over,
+    // the flag that ends a stretch
+    Close,
+    // the flag that ends a stretch with a broken pair
+    Fail,
+}
+
+// One more byte of the body, as far as there is room.
+fn keep(count: usize, v: u8) -> Move
+    ensures { λ r. ⌜ r ≡ keepOf count v ⌝ }
+{
+    if count < BODY {
+        Move::Keep(v)
+    } else {
+        Move::Over
+    }
+}
+
+// The one place that decides.
+fn advance(stage: u8, count: usize, b: u8) -> Move
+    ensures { λ r. ⌜ r ≡ advanceOf stage count b ⌝ }
+{
+    if stage == BEFORE {
+        if b == FLAG {
+            return Move::Open;
+        }
+        return Move::Skip;
+    }
+    if stage == INSIDE {
+        if b == FLAG {
+            if count == 0 {
+                return Move::Skip;
+            }
+            return Move::Close;
+        }
+        if b == ESCAPE {
+            return Move::Mark;
+        }
+        return keep(count, b);
+    }
+    if stage == ESCAPED {
+        if b == FLAG {
+            return Move::Fail;
+        }
+        if b == FLAG_PAIR {
+            return keep(count, FLAG);
+        }
+        if b == ESCAPE_PAIR {
+            return keep(count, ESCAPE);
+        }
+        return Move::Spoil;
+    }
+    if b == FLAG {
+        return Move::Fail;
+    }
+    Move::Skip
+}
+
+// How a run over a piece ended.
+enum End {
+    UsedUp,
+    // at the flag that closes a stretch of so many unstuffed bytes
+    Closed(usize),
+    // at the flag that closes a stretch with a broken pair
+    Broken,
+}
+
+// What a run hands back beside the held bytes.
+struct Ran {
+    stage: u8,
+    count: usize,
+    used: usize,
+    end: End,
+}
+
+// How many bytes are looked at together.
+const RUN: usize = 16;
+
+// Whether the next RUN bytes are all plain: neither flag nor escape.
+fn plain(s: &[u8], at: usize) -> bool
+    requires { ⌜ at + 16 ≤ length (now s) ⌝ }
+    ensures { λ r. ⌜ (r ≡ true → AllPlain (now (s .entry)) at 16) ⌝ }
+{
+    let mut good = true;
+    let mut k: usize = 0;
+    while k < RUN {
+        let b = s[at + k];
+        good = good & (b != FLAG) & (b != ESCAPE);
+        k += 1;
+    }
+    good
+}
+
+// Takes in the next RUN bytes, which are plain.
+fn take_in(held: &mut [u8; BODY], count: usize, piece: &[u8], at: usize)
+    requires { ⌜ (count + 16 ≤ bodyMax) × (at + 16 ≤ length (now piece)) × (length (now held) ≡ bodyMax) × AllPlain (now piece) at 16 ⌝ }
+    ensures { λ _. ⌜ Filled (now (piece .entry)) at count (now (held .entry)) (at + 16) (now (held .exit)) ⌝ }
+{
+    let mut k: usize = 0;
+    while k < RUN {
+        held[count + k] = piece[at + k];
+        k += 1;
+    }
+}
+
+// Takes in plain bytes from `from` on by runs, up to `stop` at most; gives the place after the last.
+fn fill_runs(held: &mut [u8; BODY], count: usize, piece: &[u8], from: usize, stop: usize) -> usize
+    requires { ⌜ (from ≤ stop) × (stop ≤ length (now piece)) × (count + (stop - from) ≤ bodyMax) × (length (now held) ≡ bodyMax) ⌝ }
+    ensures { λ r. ⌜ (r ≤ stop) × Filled (now (piece .entry)) from count (now (held .entry)) r (now (held .exit)) ⌝ }
+{
+    let mut at = count;
+    let mut i = from;
+    while RUN <= stop - i {
+        if plain(piece, i) {
+            take_in(held, at, piece, i);
+            at += RUN;
+            i += RUN;
+        } else {
+            break;
+        }
+    }
+    i
+}
+
+// The same byte by byte.
+fn fill_bytes(held: &mut [u8; BODY], count: usize, piece: &[u8], from: usize, stop: usize) -> usize
+    requires { ⌜ (from ≤ stop) × (stop ≤ length (now piece)) × (count + (stop - from) ≤ bodyMax) × (length (now held) ≡ bodyMax) ⌝ }
+    ensures { λ r. ⌜ (r ≤ stop) × Filled (now (piece .entry)) from count (now (held .entry)) r (now (held .exit)) ⌝ }
+{
+    let mut at = count;
+    let mut i = from;
+    while i < stop {
+        let b = piece[i];
+        if (b == FLAG) | (b == ESCAPE) {
+            break;
+        }
+        held[at] = b;
+        at += 1;
+        i += 1;
+    }
+    i
+}
+
+// The smaller of two numbers.
+fn least(a: usize, b: usize) -> usize
+    ensures { λ r. ⌜ r ≡ min a b ⌝ }
+{
+    if a < b { a } else { b }
+}
+
+// Takes in plain bytes from `from` on while there is room; gives the place after the last.
+fn fill(held: &mut [u8; BODY], count: usize, piece: &[u8], from: usize) -> usize
+    requires { ⌜ (count ≤ bodyMax) × (from ≤ length (now piece)) × (length (now held) ≡ bodyMax) ⌝ }
+    ensures { λ r. ⌜ Filled (now (piece .entry)) from count (now (held .entry)) r (now (held .exit)) ⌝ }
+{
+    let stop = from + least(piece.len() - from, BODY - count);
+    let i = fill_runs(held, count, piece, from, stop);
+    let at = count + (i - from);
+    fill_bytes(held, at, piece, i, stop)
+}
+
+// The piece, byte by byte, up to the flag that settles something or the end of the piece. Knows no checksum.
+fn run_in(stage: u8, count: usize, held: &mut [u8; BODY], piece: &[u8]) -> Ran
+    requires { ⌜ (inRange stage count ≡ true) × (length (now held) ≡ bodyMax) ⌝ }
+    ensures { λ r. ⌜ Runs stage count (now (held .entry)) (now (piece .entry)) r (now (held .exit)) ⌝ }
+{
+    let mut stage = stage;
+    let mut count = count;
+    let mut i: usize = 0;
+    while i < piece.len() {
+        let b = piece[i];
+        let m = advance(stage, count, b);
+        i += 1;
+        match m {
+            Move::Skip => {}
+            Move::Open => {
+                stage = INSIDE;
+                count = 0;
+            }
+            Move::Mark => {
+                stage = ESCAPED;
+            }
+            Move::Spoil => {
+                stage = BROKEN;
+            }
+            Move::Keep(v) => {
+                held[count] = v;
+                let next = count + 1;
+                let j = fill(held, next, piece, i);
+                stage = INSIDE;
+                count = next + (j - i);
+                i = j;
+            }
+            Move::Over => {
+                stage = INSIDE;
+                count = TOO_MANY;
+            }
+            Move::Close => {
+                let end = End::Closed(count);
+                return Ran {
+                    stage: INSIDE,
+                    count: 0,
+                    used: i,
+                    end: end,
+                };
+            }
+            Move::Fail => {
+                let end = End::Broken;
+                return Ran {
+                    stage: INSIDE,
+                    count: 0,
+                    used: i,
+                    end: end,
+                };
+            }
+        }
+    }
+    let end = End::UsedUp;
+    Ran {
+        stage: stage,
+        count: count,
+        used: i,
+        end: end,
+    }
+}
+
+// Whether stage and count are in the stage's range.
+fn in_range(stage: u8, count: usize) -> bool
+    ensures { λ r. ⌜ r ≡ inRange stage count ⌝ }
+{
+    if stage == BEFORE {
+        count == 0
+    } else {
+        if stage <= BROKEN {
+            count <= TOO_MANY
+        } else {
+            false
+        }
+    }
+}
+
+// A body's length: 10 to 265.
+fn sized(count: usize) -> bool
+    ensures { λ r. ⌜ r ≡ sized count ⌝ }
+{
+    (HEADER + SUM <= count) & (count <= BODY)
+}
+
+// Whether what is held begins FF 03.
+fn begins(held: &[u8]) -> bool
+    requires { ⌜ length (now held) ≡ bodyMax ⌝ }
+    ensures { λ r. ⌜ r ≡ begins (now (held .entry)) ⌝ }
+{
+    (held[0] == FIRST) & (held[1] == SECOND)
+}
+
+// Whether the last two of `count` held bytes are the two that are due.
+fn ends(count: usize, low: u8, high: u8, held: &[u8]) -> bool
+    requires { ⌜ (2 ≤ count) × (count ≤ bodyMax) × (length (now held) ≡ bodyMax) ⌝ }
+    ensures { λ r. ⌜ r ≡ due count low high (now (held .entry)) ⌝ }
+{
+    (held[count - SUM] == low) & (held[count - 1] == high)
+}
+
+// Two bytes as one number, high byte first.
+fn word(high: u8, low: u8) -> u16
+    ensures { λ r. ⌜ r ≡ high * 256 + low ⌝ }
+{
+    high as u16 * 256 + low as u16
+}
+
+// A byte as a length.
+fn wide(b: u8) -> usize
+    ensures { λ r. ⌜ r ≡ b ⌝ }
+{
+    b as usize
+}
+
+// The checks of a closed stretch in order, by its `count` unstuffed bytes and the two checksum bytes that are due.
+fn judge(count: usize, low: u8, high: u8, held: &[u8]) -> Answer
+    requires { ⌜ length (now held) ≡ bodyMax ⌝ }
+    ensures { λ r. ⌜ Judges count low high (now (held .entry)) r ⌝ }
+{
+    if !sized(count) {
+        return Answer::Damaged(Damage::WrongLength);
+    }
+    if !begins(held) {
+        return Answer::Damaged(Damage::WrongStart);
+    }
+    let len = count - HEADER - SUM;
+    if wide(held[6]) != len {
+        return Answer::Damaged(Damage::WrongSize);
+    }
+    if !ends(count, low, high, held) {
+        return Answer::Damaged(Damage::WrongSum);
+    }
+    let source = word(held[2], held[3]);
+    let destination = word(held[4], held[5]);
+    let header = Header {
+        source: source,
+        destination: destination,
+        kind: held[7],
+        len: len,
+    };
+    Answer::Message(header)
+}
+
+// A message's data go to the front of the lent buffer.
+fn deliver(answer: Answer, held: &[u8], lent: &mut [u8])
+    requires { ⌜ Small answer × (length (now held) ≡ bodyMax) × (lentLeast ≤ length (now lent)) ⌝ }
+    ensures { λ _. ⌜ now (lent .exit) ≡ given answer (now (held .entry)) (now (lent .entry)) ⌝ }
+{
+    match answer {
+        Answer::Message(h) => {
+            let n = h.len;
+            let end = HEADER + n;
+            bytes::copy(&held[HEADER..end], lent);
+        }
+        Answer::Done => {}
+        Answer::Damaged(_) => {}
+        Answer::Refused(_) => {}
+    }
+}
+
+// How many bytes the checksum takes: all but its own two. A stretch that is too short for them is refused for that.
+fn covered(count: usize) -> usize
+    ensures { λ r. ⌜ r ≡ count - 2 ⌝ }
+{
+    if count < SUM { 0 } else { count - SUM }
+}
+
+impl Reader {
+    // FF 03, source, destination, size, type
+    pub const HEADER: usize = HEADER;
+    // the data that a message has at most
+    pub const DATA: usize = DATA;
+    // both with the checksum: what a reader holds
+    pub const BODY: usize = BODY;
+    // what a host lends at least, whatever the family
+    pub const LENT: usize = 255;
+
+    // The reader before the first byte.
+    pub fn fresh() -> Self
+        ensures { λ r. ⌜ IsFresh r ⌝ }
+    {
+        Reader {
+            held: [0; BODY],
+            stage: BEFORE,
+            count: 0,
+        }
+    }
+
+    // One call on a piece: up to the first message or damage, or to the piece's end. With a message its data stand at the front of `lent`.
+    // The checksum is asked for here, once where a stretch closes.
+    pub fn step(mut self, piece: &[u8], lent: &mut [u8]) -> Step
+        ensures { λ r. ⌜ IsStep self (now (piece .entry)) (now (lent .entry)) r (now (lent .exit)) ⌝ }
+    {
+        let stage = self.stage;
+        let count = self.count;
+        if in_range(stage, count) {
+            if lent.len() < Reader::LENT {
+                let answer = Answer::Refused(Refusal::NoRoom);
+                return Step {
+                    reader: self,
+                    answer: answer,
+                    used: 0,
+                };
+            }
+            let ran = run_in(stage, count, &mut self.held, piece);
+            self.stage = ran.stage;
+            self.count = ran.count;
+            let used = ran.used;
+            let end = ran.end;
+            match end {
+                End::UsedUp => {
+                    let answer = Answer::Done;
+                    Step {
+                        reader: self,
+                        answer: answer,
+                        used: used,
+                    }
+                }
+                End::Closed(n) => {
+                    let sum = fcs::of_first(&self.held, covered(n));
+                    let due = fcs::sent_of(sum);
+                    let answer = judge(n, due.low, due.high, &self.held);
+                    deliver(answer, &self.held, lent);
+                    Step {
+                        reader: self,
+                        answer: answer,
+                        used: used,
+                    }
+                }
+                End::Broken => {
+                    let answer = Answer::Damaged(Damage::BrokenPair);
+                    Step {
+                        reader: self,
+                        answer: answer,
+                        used: used,
+                    }
+                }
+            }
+        } else {
+            let answer = Answer::Refused(Refusal::Spoilt);
+            Step {
+                reader: self,
+                answer: answer,
+                used: 0,
+            }
+        }
+    }
+}
