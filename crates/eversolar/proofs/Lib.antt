@@ -1,0 +1,11 @@
+pub mod WordLaws
+pub mod Moves
+pub mod Range
+pub mod Judge
+pub mod Frame
+pub mod Follows
+pub mod Facts
+pub mod Demands
+pub mod Requested
+pub mod ReadBack
+pub mod One

@@ -1,0 +1,101 @@
+use mathlib.Core.List.{List}
+use lib.ListN.{length-map, length}
+use Rattle.stream.specs.Event.{told}
+use Rattle.stream.specs.Call.{Seen, lentLeast, delivered}
+use Rattle.stream.proofs.Call.{steps-spoilt, steps-no-room, steps-scan}
+use Rattle.eversolar.specs.Wire.{Message}
+use Rattle.eversolar.specs.Machine.{bodyMax, next}
+use Rattle.eversolar.specs.Reader.{inRange, header, shown}
+use Rattle.eversolar.specs.Inside.{eventOf, Small, given}
+use Rattle.eversolar.specs.declared.reader.Reader.{Reader}
+use Rattle.eversolar.specs.declared.reader.Header.{Header}
+use Rattle.eversolar.specs.declared.reader.Answer.the-variants.{Refused}
+use Rattle.answers.specs.declared.Refusal.the-variants.{NoRoom, Spoilt}
+use Rattle.eversolar.proofs.Judge.{delivers}
+use native.Mathlib.Omega.{arith}
+use Prim.Native.Nat.{ℕ, _≤_}
+use mathlib.Core.Path.{_≡_, refl, sym, _∙_, ap}
+use mathlib.Core.Bool.{true}
+use borrow.Author.Needs.{needs}
+use Rattle.eversolar.proofs.reader.Reader.step.Statement.{statement}
+use Rattle.eversolar.proofs.reader.Reader.step.Tie as tie
+
+-- the state, the piece and the buffer at the start of the call; its held bytes are all there
+abbrev start : tie.After-run-in → tie.Start
+start c = c .before .before .before .before .before .before .before
+
+full-at : (c : tie.Start) → length (c .args .t1 .held) ≡ bodyMax
+full-at c = sym (length-map (c .args .t1 .held) (λ (v : ℕ). v)) ∙ c .good .0 .1 .1 .0 .1 .0 .1
+
+sound-at : (c : tie.Then1) → inRange (c .before .before .before .before .args .t1) ≡ true
+sound-at c = sym (c .before .in-range .ensures) ∙ c .if1 .taken
+
+room : (c : tie.After-run-in) → lentLeast ≤ length (start c .args .lent .now)
+room c = omega (arith, c .before .before .if2 .left)
+
+-- what the run left in the held bytes
+abbrev held : tie.After-run-in → List ℕ
+held c = c .run-in .last .1 .1 .1 .0
+
+abbrev after : tie.After-run-in → Reader
+after c = record { held = held c; stage = c .run-in .result .stage; count = c .run-in .result .count; len = c .run-in .result .len }
+
+full : (c : tie.After-run-in) → length (held c) ≡ bodyMax
+full c = c .run-in .ensures .sized ∙ full-at (start c)
+
+-- the run a judged answer came from, and what it delivers
+abbrev ran : tie.After-judge → tie.After-run-in
+ran c = c .before .before .before .before
+
+judged : (c : tie.After-judge) → Small (c .judge .result)
+    × (given (c .judge .result) (held (ran c)) (start (ran c) .args .lent .now) ≡ delivered (λ (m : Message). m .bytes) (told (eventOf (ran c .run-in .result .end) (held (ran c)))) (start (ran c) .args .lent .now))
+judged c = delivers (ran c .run-in .result .end) (held (ran c)) (start (ran c) .args .lent .now) (c .judge .result) (ran c .run-in .ensures .fits) (full (ran c)) (c .judge .ensures)
+
+in-range-requires : tie.Need-in-range-requires
+in-range-requires c κs = search needs
+
+returns : tie.Need-returns
+returns c =
+    let a = c .before .before .before .before .before .args in
+    steps-no-room next inRange header (λ m. m .bytes) shown (a .t1) (a .piece .now) (a .lent .now) (record { reader = a .t1; answer = Refused NoRoom; used = 0 }) (sound-at (c .before)) (omega arith) refl
+
+run-in-requires : tie.Need-run-in-requires
+run-in-requires c κs = (sound-at (c .before .before), full-at (c .before .before .before .before .before .before))
+
+judge-requires : tie.Need-judge-requires
+judge-requires c κs = search needs
+
+deliver-requires : tie.Need-deliver-requires
+deliver-requires c κs =
+    let k = c .before .before .before .before in
+    (judged k .0, full (ran k), room (ran k))
+
+same-length : tie.Need-same-length
+same-length c = search needs
+
+returns-2 : tie.Need-returns-2
+returns-2 c =
+    let k = c .before .before .before .before .before .before .before in
+    let r = ran k in
+    let a = start r .args in
+    steps-scan next inRange header (λ m. m .bytes) shown (a .t1) (a .piece .now) (a .lent .now) _ (record { reader = after r; answer = k .judge .result; used = r .run-in .result .used }) _ (sound-at (r .before .before .before)) (room r) (r .run-in .ensures .scanned)
+    (ap {B = Seen Reader Header} (λ t. record { state = after r; told = t; used = r .run-in .result .used }) (k .judge .ensures))
+    (c .before .before .deliver .ensures ∙ judged k .1)
+
+returns-3 : tie.Need-returns-3
+returns-3 c =
+    let a = c .before .before .before .before .args in
+    steps-spoilt next inRange header (λ m. m .bytes) shown (a .t1) (a .piece .now) (a .lent .now) (record { reader = a .t1; answer = Refused Spoilt; used = 0 }) (sym (c .before .in-range .ensures) ∙ c .if1 .left) refl
+
+pub step-spec : {M : Type 1} → statement M
+step-spec =
+    tie.close
+    (tie.spec
+    in-range-requires
+    returns
+    run-in-requires
+    judge-requires
+    deliver-requires
+    same-length
+    returns-2
+    returns-3)

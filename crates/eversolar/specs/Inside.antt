@@ -1,0 +1,82 @@
+-- What the inner functions promise. No public promise cites these.
+use Prim.Native.Nat.{ℕ, _+_, _-_, _≤_, _<_}
+use mathlib.Core.Path.{_≡_}
+use mathlib.Core.Option.{Option, none, some}
+use mathlib.Core.List.{List, _++_}
+use lib.ListN.{length, take, drop, getD}
+use Rattle.stream.specs.Event.{Event}
+use Rattle.stream.specs.Event as Event
+use Rattle.stream.specs.Call.{retold}
+use Rattle.stream.specs.Pieces.{scan, scanFrom}
+use Rattle.eversolar.specs.Words.{word}
+use Rattle.eversolar.specs.Wire.{Message, dataMax, judged}
+use Rattle.eversolar.specs.Machine.{holding, most, next}
+use Rattle.eversolar.specs.Reader.{told, header}
+use Rattle.eversolar.specs.declared.reader.Answer.{Answer}
+use Rattle.eversolar.specs.declared.reader.Answer.the-variants.{Done, Message as Read, Damaged, Refused}
+use Rattle.eversolar.specs.declared.reader.Ran.{Ran}
+use Rattle.eversolar.specs.declared.reader.Place.{Place}
+use Rattle.eversolar.specs.declared.reader.Place.the-variants.{Found, End as AtEnd}
+use Rattle.eversolar.specs.declared.reader.End.{End}
+use Rattle.eversolar.specs.declared.reader.End.the-variants.{UsedUp, Closed}
+use Rattle.eversolar.specs.declared.requests.Code.{Code}
+
+-- `hunt`: the call goes on behind AA 55, in the head; or there is none up to the end of the piece
+abbrev pub Hunted : List ℕ → ℕ → ℕ → Place → Type 0
+Hunted piece i stage (Found j) =
+    (i < j) × (j ≤ length piece) × ((len count : ℕ) (held : List ℕ) → scanFrom next (holding stage len count held) piece i ≡ scanFrom next (holding 2 len count held) piece j)
+Hunted piece i stage (AtEnd later) =
+    (later < 2)
+    × ((len count : ℕ) (held : List ℕ) → scanFrom next (holding stage len count held) piece i ≡ scanFrom next (holding later len count held) piece (length piece))
+
+-- `fill`: the bytes from i up to j are kept, and the call goes on from there
+pub record Filled (stage len : ℕ) (piece : List ℕ) (i count : ℕ) (held : List ℕ) (j : ℕ) (later : List ℕ) : Type 0 where
+  pub forward : i ≤ j
+  pub within : j ≤ length piece
+  pub room : count + (j - i) ≤ most stage len
+  pub sized : length later ≡ length held
+  pub goes : scanFrom next (holding stage len count held) piece i ≡ scanFrom next (holding stage len (count + (j - i)) later) piece j
+
+-- the event that a frame is, by its length, the last byte of its checksum and the held bytes
+abbrev pub judgedFrame : ℕ → ℕ → List ℕ → Option (Event Message)
+judgedFrame len last held = some (judged (take 6 held) len (take len (drop 7 held)) (word (getD held (7 + len) 0) last))
+
+-- the event that the end of a run is
+abbrev pub eventOf : End → List ℕ → Option (Event Message)
+eventOf UsedUp held = none
+eventOf (Closed len last) held = judgedFrame len last held
+
+-- a length that was read is one that a message has
+abbrev pub Fits : End → Type 0
+Fits UsedUp = Unit {0}
+Fits (Closed len last) = len ≤ dataMax
+
+-- `run_in`: the scan of the piece
+pub record Runs (stage count len : ℕ) (held piece : List ℕ) (r : Ran) (later : List ℕ) : Type 0 where
+  pub sized : length later ≡ length held
+  pub fits : Fits (r .end)
+  pub scanned :
+      scan next (holding stage len count held) piece
+      ≡ record { state = holding (r .stage) (r .len) (r .count) later; event = eventOf (r .end) later; used = r .used }
+
+-- `judge`: the answer tells the event
+abbrev pub JudgedAs : Option (Event Message) → Answer → Type 0
+JudgedAs event answer = told answer ≡ retold header (Event.told event)
+
+-- a length that is told is one that a message has
+abbrev pub Small : Answer → Type 0
+Small Done = Unit {0}
+Small (Read h) = h .len ≤ dataMax
+Small (Damaged what) = Unit {0}
+Small (Refused why) = Unit {0}
+
+-- `deliver`: the lent buffer afterwards
+abbrev pub given : Answer → List ℕ → List ℕ → List ℕ
+given Done held lent = lent
+given (Read h) held lent = take (h .len) (drop 7 held) ++ drop (h .len) lent
+given (Damaged what) held lent = lent
+given (Refused why) held lent = lent
+
+-- `code_to_all`, `code_to_one`: the control and the function of a message
+abbrev pub IsCode : Message → Code → Type 0
+IsCode m code = (code .control ≡ m .control) × (code .function ≡ m .function)

@@ -1,0 +1,62 @@
+-- The reader as its host meets it: what its answers tell, and what its calls promise.
+use Prim.Native.Nat.{ℕ}
+use mathlib.Core.Path.{_≡_}
+use mathlib.Core.Bool.{Bool}
+use mathlib.Core.List.{List}
+use lib.ListN.{length, take}
+use Rattle.answers.specs.Refusal as Refusal
+use Rattle.answers.specs.Damage as Damage
+use Rattle.stream.specs.Event.{message, damage, Told, done, gives, refuses}
+use Rattle.stream.specs.Call.{Seen, Steps}
+use Rattle.eversolar.specs.Wire.{Message}
+use Rattle.eversolar.specs.Machine as Machine
+use Rattle.eversolar.specs.declared.reader.Reader.{Reader}
+use Rattle.eversolar.specs.declared.reader.Header.{Header}
+use Rattle.eversolar.specs.declared.reader.Step.{Step}
+use Rattle.eversolar.specs.declared.reader.Answer.{Answer}
+use Rattle.eversolar.specs.declared.reader.Answer.the-variants.{Done, Message as Read, Damaged, Refused}
+
+-- document 01's number of each answer, and with 1 the header
+abbrev pub told : Answer → Told Header
+told Done = done
+told (Read h) = gives (message h)
+told (Damaged what) = gives (damage (Damage.told what))
+told (Refused why) = refuses (Refusal.told why)
+
+abbrev pub shown : Step → Seen Reader Header
+shown r = record { state = r .reader; told = told (r .answer); used = r .used }
+
+-- a message's header; and the message again, from its header and the buffer at whose front its data stand
+abbrev pub header : Message → Header
+header m = record {
+  «source_first» = m .sourceFirst;
+  «source_second» = m .sourceSecond;
+  «destination_first» = m .destinationFirst;
+  «destination_second» = m .destinationSecond;
+  control = m .control;
+  function = m .function;
+  len = length (m .bytes);
+}
+
+abbrev pub join : Header → List ℕ → Message
+join h later = record {
+  sourceFirst = h .«source_first»;
+  sourceSecond = h .«source_second»;
+  destinationFirst = h .«destination_first»;
+  destinationSecond = h .«destination_second»;
+  control = h .control;
+  function = h .function;
+  bytes = take (h .len) later;
+}
+
+-- stage, held count and held data length lie in that stage's range
+abbrev pub inRange : Reader → Bool
+inRange s = Machine.inRange (s .stage) (s .count) (s .len)
+
+-- what `Reader::fresh` promises
+abbrev pub IsFresh : Reader → Type 0
+IsFresh r = r ≡ Machine.fresh
+
+-- what `Reader::step` promises, of state, piece, lent buffer, result and the buffer afterwards
+abbrev pub IsStep : Reader → List ℕ → List ℕ → Step → List ℕ → Type 0
+IsStep = Steps Machine.next inRange header (λ m. m .bytes) shown

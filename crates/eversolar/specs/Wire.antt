@@ -1,0 +1,79 @@
+-- Eversolar on the wire: AA 55, source, destination, control, function, length N, N data bytes, two checksum bytes.
+use Prim.Native.Nat.{ℕ, _+_, _%_, _≤_, _<_}
+use mathlib.Core.Bool.{cond}
+use mathlib.Core.List.{List, [], _∷_, _++_}
+use lib.ListN.{length, getD}
+use lib.Dec.{T, eqb}
+use lib.Pow.{areBytes}
+use Rattle.stream.specs.Event.{Event, message, damage}
+use Rattle.eversolar.specs.Words.{wordBytes}
+
+-- source and destination are two bytes each, as sent
+pub record Message : Type 0 where
+  pub sourceFirst : ℕ
+  pub sourceSecond : ℕ
+  pub destinationFirst : ℕ
+  pub destinationSecond : ℕ
+  pub control : ℕ
+  pub function : ℕ
+  pub bytes : List ℕ
+
+-- 0 to 255 data bytes
+abbrev pub dataMax : ℕ
+dataMax = 255
+
+-- a message that the writer takes: all its parts are bytes, and its data are not too long
+pub record Takes (m : Message) : Type 0 where
+  pub sourceFirst : m .sourceFirst < 256
+  pub sourceSecond : m .sourceSecond < 256
+  pub destinationFirst : m .destinationFirst < 256
+  pub destinationSecond : m .destinationSecond < 256
+  pub control : m .control < 256
+  pub function : m .function < 256
+  pub bytes : T (areBytes (m .bytes))
+  pub fits : length (m .bytes) ≤ dataMax
+
+-- the two bytes that open a frame
+abbrev pub firstMark : ℕ
+firstMark = 0xAA
+
+abbrev pub secondMark : ℕ
+secondMark = 0x55
+
+-- source, destination, control, function
+abbrev pub head : Message → List ℕ
+head m = m .sourceFirst ∷ m .sourceSecond ∷ m .destinationFirst ∷ m .destinationSecond ∷ m .control ∷ m .function ∷ []
+
+-- all bytes before the checksum: AA 55, these six, length N, the data
+abbrev pub front : List ℕ → ℕ → List ℕ → List ℕ
+front six n bytes = firstMark ∷ secondMark ∷ (six ++ (n ∷ bytes))
+
+-- the checksum is the sum of all earlier bytes, AA 55 included, modulo 65,536
+abbrev pub total : List ℕ → ℕ
+total [] = 0
+total (b ∷ bs) = b + total bs
+
+unfoldable pub checksum : List ℕ → ℕ
+checksum bs = total bs % 65536
+
+abbrev pub earlier : Message → List ℕ
+earlier m = front (head m) (length (m .bytes)) (m .bytes)
+
+abbrev pub wire : Message → List ℕ
+wire m = earlier m ++ wordBytes (checksum (earlier m))
+
+-- the message of six bytes before the length, and data
+abbrev pub messageOf : List ℕ → List ℕ → Message
+messageOf six bytes = record {
+  sourceFirst = getD six 0 0;
+  sourceSecond = getD six 1 0;
+  destinationFirst = getD six 2 0;
+  destinationSecond = getD six 3 0;
+  control = getD six 4 0;
+  function = getD six 5 0;
+  bytes = bytes;
+}
+
+-- what a frame comes to, by the six bytes, N, the data and the checksum that came: a wrong sum is 6
+unfoldable pub judged : List ℕ → ℕ → List ℕ → ℕ → Event Message
+judged six n bytes sum = cond (eqb sum (checksum (front six n bytes))) (message (messageOf six bytes)) (damage 6)

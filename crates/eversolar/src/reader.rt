@@ -1,0 +1,415 @@
+// The streaming reader: bytes go in by pieces, messages and damages come out, whatever the pieces.
+use crate::words::word;
+use answers::Damage;
+use answers::Refusal;
+ghost use Prim.Native.Nat.{min, _+_, _*_, _≤_, _<_};
+ghost use mathlib.Core.Path.{_≡_};
+ghost use mathlib.Core.Bool.{true};
+ghost use lib.ListN.{length, take, drop};
+ghost use Rattle.stream.specs.Call.{lentLeast};
+ghost use Rattle.eversolar.specs.Wire.{total, checksum, dataMax, front};
+ghost use Rattle.eversolar.specs.Machine.{advanceOf, bodyMax, inRange, most};
+ghost use Rattle.eversolar.specs.Reader.{IsFresh, IsStep};
+ghost use Rattle.eversolar.specs.Inside.{Hunted, Filled, Fits, Runs, eventOf, judgedFrame, JudgedAs, Small, given};
+
+// The two bytes that open a frame.
+pub(crate) const FIRST_MARK: u8 = 0xAA;
+
+pub(crate) const SECOND_MARK: u8 = 0x55;
+
+// The limits, named here because the reader's own constants cannot size its own array. Source, destination, control and function are six bytes; the length is the seventh.
+const SIX: usize = 6;
+
+const HEADER: usize = SIX + 1;
+
+const DATA: usize = 255;
+
+// What a reader holds at most: of the checksum the first byte is held, the second ends the frame.
+const BODY: usize = HEADER + DATA + 1;
+
+// What the bytes read so far have led to. A field that the stage does not use is 0; what `held` has beyond `count` is left over and means nothing.
+pub struct Reader {
+    // the bytes since AA 55, as far as they have come
+    pub held: [u8; BODY],
+    // LOOKING, MARK_SEEN, IN_HEAD or IN_BODY
+    pub stage: u8,
+    // in the head and in the body the bytes held
+    pub count: usize,
+    // in the body the length read
+    pub len: usize,
+}
+
+// A message, but for its data, which stand at the front of the lent buffer. Addresses are two bytes, as sent.
+pub struct Header {
+    pub source_first: u8,
+    pub source_second: u8,
+    pub destination_first: u8,
+    pub destination_second: u8,
+    pub control: u8,
+    pub function: u8,
+    // how many data bytes there are
+    pub len: usize,
+}
+
+pub enum Answer {
+    // the piece is used up
+    Done,
+    Message(Header),
+    Damaged(Damage),
+    Refused(Refusal),
+}
+
+// What a call hands back: the reader to go on with, the answer, and how many bytes of the piece were used.
+pub struct Step {
+    pub reader: Reader,
+    pub answer: Answer,
+    pub used: usize,
+}
+
+// The four stages: looking for AA; for 55, where AA was the byte before; before the length is known; after.
+const LOOKING: u8 = 0;
+
+const MARK_SEEN: u8 = 1;
+
+const IN_HEAD: u8 = 2;
+
+const IN_BODY: u8 = 3;
+
+// Where a hunt for AA 55 ends: at the place after the 55, or at the end of the piece, in a stage of looking.
+enum Place {
+    Found(usize),
+    End(u8),
+}
+
+// Looks for AA directly followed by 55 from `from` on. An AA that comes where 55 is looked for may itself open a header.
+fn hunt(piece: &[u8], from: usize, stage: u8) -> Place
+    requires { ⌜ (from ≤ length (now piece)) × (stage < 2) ⌝ }
+    ensures { λ r. ⌜ Hunted (now (piece .entry)) from stage r ⌝ }
+{
+    let mut stage = stage;
+    let mut i = from;
+    let place = loop {
+        if piece.len() <= i {
+            break Place::End(stage);
+        }
+        let b = piece[i];
+        i += 1;
+        if (stage == MARK_SEEN) & (b == SECOND_MARK) {
+            break Place::Found(i);
+        }
+        if b == FIRST_MARK {
+            stage = MARK_SEEN;
+        } else {
+            stage = LOOKING;
+        }
+    };
+    place
+}
+
+// How many bytes since AA 55 are kept before the one that tells the length, or the last.
+fn most_of(stage: u8, len: usize) -> usize
+    requires { ⌜ len ≤ dataMax ⌝ }
+    ensures { λ r. ⌜ (r ≡ most stage len) × (r ≤ bodyMax) ⌝ }
+{
+    if stage == IN_HEAD {
+        SIX
+    } else {
+        HEADER + 1 + len
+    }
+}
+
+// What one byte since AA 55 asks of the reader.
+enum Move {
+    // one more byte of the head or the body
+    Keep,
+    // the length
+    Size,
+    // the checksum's second byte, which ends the frame
+    Close,
+}
+
+// The one place that decides.
+fn advance(stage: u8, count: usize, len: usize) -> Move
+    requires { ⌜ len ≤ dataMax ⌝ }
+    ensures { λ r. ⌜ r ≡ advanceOf stage count len ⌝ }
+{
+    if count < most_of(stage, len) {
+        return Move::Keep;
+    }
+    if stage == IN_HEAD {
+        return Move::Size;
+    }
+    Move::Close
+}
+
+// The `n` bytes of `s` from `from` on added up.
+fn total_of(s: &[u8], from: usize, n: usize) -> usize
+    requires { ⌜ (from + n ≤ length (now s)) × (n ≤ dataMax) × (from ≤ dataMax) ⌝ }
+    ensures { λ r. ⌜ (r ≡ total (take n (drop from (now (s .entry))))) × (r ≤ 256 * n) ⌝ }
+{
+    let mut sum: usize = 0;
+    let mut i: usize = 0;
+    while i < n {
+        sum += s[from + i] as usize;
+        i += 1;
+    }
+    sum
+}
+
+// The checksum of a frame by its length and the bytes since AA 55 at the front of `s`. The length is not looked up in `s`, where a reader may have left anything.
+pub(crate) fn checksum_of(len: usize, s: &[u8]) -> u16
+    requires { ⌜ (7 + len ≤ length (now s)) × (len ≤ dataMax) ⌝ }
+    ensures { λ r. ⌜ r ≡ checksum (front (take 6 (now (s .entry))) len (take len (drop 7 (now (s .entry))))) ⌝ }
+{
+    let marks = FIRST_MARK as usize + SECOND_MARK as usize;
+    let sum = marks + len + total_of(s, 0, SIX) + total_of(s, HEADER, len);
+    (sum % 65536) as u16
+}
+
+// How a run over a piece ended.
+enum End {
+    UsedUp,
+    // a frame of so many data bytes is held, and this is the last byte of its checksum
+    Closed { len: usize, last: u8 },
+}
+
+// What a run hands back beside the held bytes.
+struct Ran {
+    stage: u8,
+    count: usize,
+    len: usize,
+    used: usize,
+    end: End,
+}
+
+// The smaller of two numbers.
+fn least(a: usize, b: usize) -> usize
+    ensures { λ r. ⌜ r ≡ min a b ⌝ }
+{
+    if a < b { a } else { b }
+}
+
+// Takes in bytes from `from` on, which need no look, as many as are kept and the piece has; gives the place after the last.
+fn fill(
+    held: &mut [u8; BODY],
+    stage: u8,
+    count: usize,
+    len: usize,
+    piece: &[u8],
+    from: usize,
+) -> usize
+    requires { ⌜ (2 ≤ stage) × (len ≤ dataMax) × (count ≤ most stage len) × (from ≤ length (now piece)) × (length (now held) ≡ bodyMax) ⌝ }
+    ensures { λ r. ⌜ Filled stage len (now (piece .entry)) from count (now (held .entry)) r (now (held .exit)) ⌝ }
+{
+    let stop = from + least(piece.len() - from, most_of(stage, len) - count);
+    let mut at = count;
+    let mut i = from;
+    while i < stop {
+        held[at] = piece[i];
+        at += 1;
+        i += 1;
+    }
+    i
+}
+
+// The piece up to the end of a frame or the end of the piece.
+fn run_in(stage: u8, count: usize, len: usize, held: &mut [u8; BODY], piece: &[u8]) -> Ran
+    requires { ⌜ (inRange stage count len ≡ true) × (length (now held) ≡ bodyMax) ⌝ }
+    ensures { λ r. ⌜ Runs stage count len (now (held .entry)) (now (piece .entry)) r (now (held .exit)) ⌝ }
+{
+    let mut stage = stage;
+    let mut count = count;
+    let mut len = len;
+    let mut i: usize = 0;
+    while i < piece.len() {
+        if stage < IN_HEAD {
+            let place = hunt(piece, i, stage);
+            match place {
+                Place::Found(j) => {
+                    stage = IN_HEAD;
+                    i = j;
+                }
+                Place::End(s) => {
+                    stage = s;
+                    i = piece.len();
+                }
+            }
+        } else {
+            let b = piece[i];
+            let m = advance(stage, count, len);
+            i += 1;
+            match m {
+                Move::Keep => {
+                    held[count] = b;
+                    let next = count + 1;
+                    let j = fill(held, stage, next, len, piece, i);
+                    count = next + (j - i);
+                    i = j;
+                }
+                Move::Size => {
+                    held[SIX] = b;
+                    stage = IN_BODY;
+                    count = HEADER;
+                    len = b as usize;
+                }
+                Move::Close => {
+                    let end = End::Closed { len: len, last: b };
+                    return Ran {
+                        stage: LOOKING,
+                        count: 0,
+                        len: 0,
+                        used: i,
+                        end: end,
+                    };
+                }
+            }
+        }
+    }
+    let end = End::UsedUp;
+    Ran {
+        stage: stage,
+        count: count,
+        len: len,
+        used: i,
+        end: end,
+    }
+}
+
+// Whether stage, count and length are in the stage's range.
+fn in_range(stage: u8, count: usize, len: usize) -> bool
+    ensures { λ r. ⌜ r ≡ inRange stage count len ⌝ }
+{
+    if stage < IN_HEAD {
+        if count == 0 { len == 0 } else { false }
+    } else {
+        if stage == IN_HEAD {
+            if count <= SIX { len == 0 } else { false }
+        } else {
+            if stage == IN_BODY {
+                if len <= DATA {
+                    if HEADER <= count {
+                        count <= HEADER + 1 + len
+                    } else {
+                        false
+                    }
+                } else {
+                    false
+                }
+            } else {
+                false
+            }
+        }
+    }
+}
+
+// What a frame comes to, by its length, the last byte of its checksum and the held bytes.
+fn judge_frame(len: usize, last: u8, held: &[u8]) -> Answer
+    requires { ⌜ (len ≤ dataMax) × (length (now held) ≡ bodyMax) ⌝ }
+    ensures { λ r. ⌜ JudgedAs (judgedFrame len last (now (held .entry))) r ⌝ }
+{
+    let right = checksum_of(len, held);
+    let came = word(held[HEADER + len], last);
+    if came == right {
+        let header = Header {
+            source_first: held[0],
+            source_second: held[1],
+            destination_first: held[2],
+            destination_second: held[3],
+            control: held[4],
+            function: held[5],
+            len: len,
+        };
+        return Answer::Message(header);
+    }
+    Answer::Damaged(Damage::WrongSum)
+}
+
+// What the end of a run comes to.
+fn judge(end: End, held: &[u8]) -> Answer
+    requires { ⌜ Fits end × (length (now held) ≡ bodyMax) ⌝ }
+    ensures { λ r. ⌜ JudgedAs (eventOf end (now (held .entry))) r ⌝ }
+{
+    match end {
+        End::UsedUp => Answer::Done,
+        End::Closed { len, last } => judge_frame(len, last, held),
+    }
+}
+
+// A message's data go to the front of the lent buffer.
+fn deliver(answer: Answer, held: &[u8], lent: &mut [u8])
+    requires { ⌜ Small answer × (length (now held) ≡ bodyMax) × (lentLeast ≤ length (now lent)) ⌝ }
+    ensures { λ _. ⌜ now (lent .exit) ≡ given answer (now (held .entry)) (now (lent .entry)) ⌝ }
+{
+    match answer {
+        Answer::Message(h) => {
+            let n = h.len;
+            let end = HEADER + n;
+            bytes::copy(&held[HEADER..end], lent);
+        }
+        Answer::Done => {}
+        Answer::Damaged(_) => {}
+        Answer::Refused(_) => {}
+    }
+}
+
+impl Reader {
+    // source, destination, control, function and length
+    pub const HEADER: usize = HEADER;
+    // the data that a message has at most
+    pub const DATA: usize = DATA;
+    // both, and the checksum's first byte: what a reader holds
+    pub const BODY: usize = BODY;
+    // what a host lends at least, whatever the family
+    pub const LENT: usize = 255;
+
+    // The reader before the first byte.
+    pub fn fresh() -> Self
+        ensures { λ r. ⌜ IsFresh r ⌝ }
+    {
+        Reader {
+            held: [0; BODY],
+            stage: LOOKING,
+            count: 0,
+            len: 0,
+        }
+    }
+
+    // One call on a piece: up to the first message or damage, or to the piece's end. With a message its data stand at the front of `lent`.
+    pub fn step(mut self, piece: &[u8], lent: &mut [u8]) -> Step
+        ensures { λ r. ⌜ IsStep self (now (piece .entry)) (now (lent .entry)) r (now (lent .exit)) ⌝ }
+    {
+        let stage = self.stage;
+        let count = self.count;
+        let len = self.len;
+        if in_range(stage, count, len) {
+            if lent.len() < Reader::LENT {
+                let answer = Answer::Refused(Refusal::NoRoom);
+                return Step {
+                    reader: self,
+                    answer: answer,
+                    used: 0,
+                };
+            }
+            let ran = run_in(stage, count, len, &mut self.held, piece);
+            self.stage = ran.stage;
+            self.count = ran.count;
+            self.len = ran.len;
+            let used = ran.used;
+            let end = ran.end;
+            let answer = judge(end, &self.held);
+            deliver(answer, &self.held, lent);
+            Step {
+                reader: self,
+                answer: answer,
+                used: used,
+            }
+        } else {
+            let answer = Answer::Refused(Refusal::Spoilt);
+            Step {
+                reader: self,
+                answer: answer,
+                used: 0,
+            }
+        }
+    }
+}
