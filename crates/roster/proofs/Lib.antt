@@ -1,0 +1,9 @@
+pub mod Bytes
+pub mod Search
+pub mod Test
+pub mod Ends
+pub mod One
+pub mod Rule
+pub mod Told
+pub mod Fills
+pub mod Demands

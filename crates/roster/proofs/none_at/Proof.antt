@@ -1,0 +1,41 @@
+-- `none_at` meets its promise: by its three tests.
+-- Assumes nothing.
+use Prim.Native.Nat.{_-_}
+use mathlib.Core.Path.{sym, ap}
+use native.Mathlib.Omega.{arith}
+use lib.Dec.{eqb}
+use borrow.Author.Tests.{eq-eqb, ne-eqb, lt-ltb, le-ltb}
+use borrow.Author.Needs.{needs}
+use Rattle.roster.specs.declared.Place.{Place}
+use Rattle.roster.specs.Roster.{freePlace, noneAt, free}
+use Rattle.roster.proofs.Bytes.{place-at}
+use Rattle.roster.proofs.none_at.Statement.{statement}
+use Rattle.roster.proofs.none_at.Tie as tie
+
+returns : tie.Need-returns
+unfolding noneAt
+returns c = simp (eq-eqb _ _ (c .if1 .taken))
+
+returns-2 : tie.Need-returns-2
+unfolding noneAt
+returns-2 c = simp (ne-eqb _ _ (c .before .if1 .left), lt-ltb _ _ (c .if2 .taken))
+
+sub-at : tie.Need-sub-at
+sub-at c = search needs
+
+mul-at : tie.Need-mul-at
+mul-at c = search needs
+
+shared-slice-read-result : tie.Need-shared-slice-read-result
+shared-slice-read-result c = search needs
+
+returns-3 : tie.Need-returns-3
+unfolding noneAt free
+returns-3 c =
+    let s = c .before .before .before in
+    let here = place-at (s .args .roster .now) (s .args .address - 1) freePlace (omega arith) in
+    simp (ne-eqb _ _ (c .before .before .if1 .left), le-ltb _ _ (c .before .if2 .left)) (ap (λ (p : Place). eqb (p .mark) 0) (sym here))
+
+pub none-at-spec : {M : Type 1} → statement M
+none-at-spec =
+    tie.close (tie.spec returns returns-2 sub-at mul-at shared-slice-read-result returns-3)
