@@ -1,7 +1,12 @@
 -- All cases, each by computation.
 -- Assumes nothing.
 use mathlib.Core.Path.{refl}
-use Rattle.fcs.specs.Fcs.{folded, bitStep, bitSteps, entry, fcsNext, fcsFrom, fcsOf, sentAfter, sent}
+use Rattle.fcs.specs.Fcs.{folded, bitStep, bitSteps, entry, fcsNext, fcsFrom, fcsOf, sentAfter, sent, same, agrees}
+use Rattle.comlynx.specs.Wire as ComLynxWire
+use Rattle.comlynx.specs.Rules as ComLynxRules
+use Rattle.eversolar.specs.Words as EversolarWords
+use Rattle.eversolar.specs.Wire as EversolarWire
+use Rattle.eversolar.specs.Waits as EversolarWaits
 use Rattle.fronius.specs.Wire as FroniusWire
 use Rattle.fronius.specs.Rules as FroniusRules
 use Rattle.fronius_values.specs.Measured as Measured
@@ -9,5 +14,5 @@ use Rattle.fronius_values.specs.Reading as Reading
 use Rattle.cases.specs.Cases.{AllHold}
 
 pub all-hold : AllHold
-unfolding folded bitStep bitSteps entry fcsNext fcsFrom fcsOf sentAfter sent FroniusWire.checksum FroniusWire.judged FroniusRules.frame FroniusRules.sized FroniusRules.sought Measured.thousandthsOf Reading.readingOf Reading.kindOf
-all-hold = ((refl, (refl, (refl, (refl, (refl, (refl, (refl, (refl, (refl, (refl, (refl, (refl, (refl, tt))))))))))))), refl)
+unfolding folded bitStep bitSteps entry fcsNext fcsFrom fcsOf sentAfter sent same agrees ComLynxWire.body ComLynxRules.judged ComLynxRules.judge ComLynxRules.within ComLynxRules.before EversolarWords.wordBytes EversolarWire.checksum EversolarWaits.waitAt EversolarWaits.waitOf FroniusWire.checksum FroniusWire.judged FroniusRules.frame FroniusRules.sized FroniusRules.sought Measured.thousandthsOf Reading.readingOf Reading.kindOf
+all-hold = ((refl, (refl, (refl, (refl, (refl, (refl, (refl, (refl, (refl, (refl, (refl, (refl, (refl, (refl, (refl, (refl, (refl, (refl, (refl, (refl, (refl, (refl, (refl, (refl, tt)))))))))))))))))))))))), refl, refl)

@@ -2,21 +2,35 @@
 use Prim.Native.Nat.{ℕ}
 use mathlib.Core.Path.{_≡_}
 use mathlib.Core.Bool.{true, false}
-use mathlib.Core.Option.{Option, some}
+use mathlib.Core.Option.{Option, none, some}
 use mathlib.Core.List.{List, [], _∷_}
+use lib.ListN.{length, replicate}
 use lib.IntN.{pos, negℤ}
 use lib.Ieee.{binary64, ofInt}
+use Rattle.answers.specs.Answer.{answer}
 use Rattle.stream.specs.Event.{Event, message}
 use Rattle.stream.specs.Rule.{Placed}
 use Rattle.fcs.specs.Fcs.{fcsOf, sent}
+use Rattle.comlynx.specs.Wire as ComLynxWire
+use Rattle.comlynx.specs.Rules as ComLynxRules
+use Rattle.eversolar.specs.Wire as EversolarWire
+use Rattle.eversolar.specs.Requests as EversolarRequests
+use Rattle.eversolar.specs.Waits as EversolarWaits
+use Rattle.eversolar.specs.declared.requests.ToAll.the-variants.{OffLine}
 use Rattle.fronius.specs.Wire as FroniusWire
 use Rattle.fronius.specs.Rules as FroniusRules
 use Rattle.fronius_values.specs.Measured as Measured
 use Rattle.fronius_values.specs.Reading as Reading
 use Rattle.fronius_values.specs.declared.reading.Reading.the-variants.{Power}
-use Rattle.cases.specs.Case.{Case, case, Hold, inOrderFrom}
+use Rattle.cases.specs.Case.{Case, case, Hold, inOrderFrom, hasAll}
 
--- P4's message, get version, and P5's, a power
+-- P1's message, the ping of L1; P4's, get version; P5's, a power
+abbrev pub ping : ComLynxWire.Message
+ping = record { source = 0x0002; destination = 0x11FF; kind = 0x15; bytes = [] }
+
+abbrev pub allFlags : ComLynxWire.Message
+allFlags = record { source = 0x0002; destination = 0x11FF; kind = 0x15; bytes = replicate 255 0x7E }
+
 abbrev pub getVersion : FroniusWire.Message
 getVersion = record { device = 0; number = 0; command = 0x01; bytes = [] }
 
@@ -32,6 +46,15 @@ cases =
     -- P1: the ComLynx ping of L1: checksum state 6E86, sent 79 91
     case 1 (fcsOf (0xFF ∷ 0x03 ∷ 0x00 ∷ 0x02 ∷ 0x11 ∷ 0xFF ∷ 0x00 ∷ 0x15 ∷ [])) 0x6E86
     ∷ case 1 (sent (0xFF ∷ 0x03 ∷ 0x00 ∷ 0x02 ∷ 0x11 ∷ 0xFF ∷ 0x00 ∷ 0x15 ∷ [])) (0x79 ∷ 0x91 ∷ [])
+    ∷ case 1 (ComLynxWire.wire ping) (0x7E ∷ 0xFF ∷ 0x03 ∷ 0x00 ∷ 0x02 ∷ 0x11 ∷ 0xFF ∷ 0x00 ∷ 0x15 ∷ 0x79 ∷ 0x91 ∷ 0x7E ∷ [])
+    -- the frame of L1
+    ∷ case 1 (ComLynxRules.rule false (0x7E ∷ 0xFF ∷ 0x03 ∷ 0x00 ∷ 0x02 ∷ 0x11 ∷ 0xFF ∷ 0x00 ∷ 0x15 ∷ 0x79 ∷ 0x91 ∷ 0x7E ∷ [])) (reads ping 12)
+    -- P2: data 7E 7D stuffs to 7D 5E 7D 5D
+    ∷ case 2 (ComLynxWire.stuffed (0x7E ∷ 0x7D ∷ [])) (0x7D ∷ 0x5E ∷ 0x7D ∷ 0x5D ∷ [])
+    -- its limit: 255 data bytes that are all 7E, written and read back
+    ∷ case 2 (ComLynxRules.rule false (ComLynxWire.wire allFlags)) (reads allFlags (length (ComLynxWire.wire allFlags)))
+    -- P3: off-line query
+    ∷ case 3 (EversolarWire.wire (EversolarRequests.askAll OffLine)) (0xAA ∷ 0x55 ∷ 0x01 ∷ 0x00 ∷ 0x00 ∷ 0x00 ∷ 0x10 ∷ 0x00 ∷ 0x00 ∷ 0x10 ∷ 0x01 ∷ [])
     -- P4: get version, written and read
     ∷ case 4 (FroniusWire.wire getVersion) (0x80 ∷ 0x80 ∷ 0x80 ∷ 0x00 ∷ 0x00 ∷ 0x00 ∷ 0x01 ∷ 0x01 ∷ [])
     ∷ case 4 (FroniusRules.rule tt (0x80 ∷ 0x80 ∷ 0x80 ∷ 0x00 ∷ 0x00 ∷ 0x00 ∷ 0x01 ∷ 0x01 ∷ [])) (reads getVersion 8)
@@ -48,10 +71,18 @@ cases =
     -- P9: exponent 0B: 15; FC: 16
     ∷ case 9 (Measured.thousandthsOf (0x04 ∷ 0xD2 ∷ 0x0B ∷ []) false) (Measured.tells 15 (pos 0))
     ∷ case 9 (Measured.thousandthsOf (0x04 ∷ 0xD2 ∷ 0xFC ∷ []) false) (Measured.tells 16 (pos 0))
+    -- P10: serial number 1000: waits 0, 10, 6, 4
+    ∷ case 10 (EversolarWaits.waitOf 1000 1) (answer 0 (0 ∷ []))
+    ∷ case 10 (EversolarWaits.waitOf 1000 2) (answer 0 (10 ∷ []))
+    ∷ case 10 (EversolarWaits.waitOf 1000 3) (answer 0 (6 ∷ []))
+    ∷ case 10 (EversolarWaits.waitOf 1000 4) (answer 0 (4 ∷ []))
+    -- P11: 7E 7E 7E gives nothing
+    ∷ case 11 (ComLynxRules.rule false (0x7E ∷ 0x7E ∷ 0x7E ∷ [])) none
+    ∷ case 11 (ComLynxRules.rule true (0x7E ∷ 0x7E ∷ 0x7E ∷ [])) none
     -- P12: P4 with two more 80 in front reads as P4
     ∷ case 12 (FroniusRules.rule tt (0x80 ∷ 0x80 ∷ 0x80 ∷ 0x80 ∷ 0x80 ∷ 0x00 ∷ 0x00 ∷ 0x00 ∷ 0x01 ∷ 0x01 ∷ [])) (reads getVersion 10)
     ∷ []
 
--- THE ONE STATEMENT: all of them hold, and they stand in order
+-- THE ONE STATEMENT: all of them hold, they stand in order, and none of the twelve is missing
 abbrev pub AllHold : Type 0
-AllHold = Hold cases × (inOrderFrom 1 cases ≡ true)
+AllHold = Hold cases × (inOrderFrom 1 cases ≡ true) × (hasAll 12 cases ≡ true)
