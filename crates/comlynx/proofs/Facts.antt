@@ -14,7 +14,6 @@ use Rattle.comlynx.specs.Machine.{next}
 use Rattle.comlynx.specs.Machine as Machine
 use Rattle.comlynx.specs.Reader.{inRange, header, join, shown}
 use Rattle.comlynx.specs.Demands.{comlynx}
-use Rattle.comlynx.proofs.Range.{stays-in-range}
 use Rattle.comlynx.proofs.Follows.{At, at-fresh, follows}
 use Rattle.comlynx.proofs.Frame.{reads, wire-bytes}
 
@@ -33,9 +32,14 @@ facts = record {
   wire-bytes = wire-bytes;
   inRange = inRange;
   fresh-in-range = refl;
-  stays-in-range = stays-in-range;
   steps = steps-seen next inRange header (λ m. m .bytes) shown join joins;
+  stays-in-range = λ s piece lent later r st. st .2;
   keeps = steps-keeps next inRange header (λ m. m .bytes) shown join joins;
   writes = λ m lent later w n. writes-frame (ltb dataMax (length (m .bytes))) (wire m) lent later w n;
   writes-nothing = λ m lent later w. writes-nothing (ltb dataMax (length (m .bytes))) (wire m) lent later w;
 }
+
+-- the machine that they speak of
+pub machine : facts .next ≡ next
+unfolding facts
+machine = refl

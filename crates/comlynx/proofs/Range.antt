@@ -1,6 +1,6 @@
--- The range of each stage, and that every byte keeps it.
+-- The range of each stage, and what is known where a state is asked something.
 -- Assumes nothing.
-use Prim.Native.Nat.{ℕ, _+_, _≤_, _<_}
+use Prim.Native.Nat.{ℕ, _≤_, _<_}
 use mathlib.Core.Path.{_≡_, refl}
 use mathlib.Core.Bool.{Bool, true, false, cond}
 use lib.Dec.{eqb, ltb, leb}
@@ -8,9 +8,7 @@ use borrow.Author.Tests.{le-leb, eq-eqb, ne-eqb, ltb-true, leb-true, eqb-true, e
 use native.Mathlib.Omega.{arith}
 use Rattle.comlynx.specs.Wire.{flag, escape}
 use Rattle.comlynx.specs.Machine as Machine
-use Rattle.comlynx.specs.Machine.{bodyMax, tooMany, keepOf, advanceOf, moved, next}
-use Rattle.comlynx.specs.Reader.{inRange}
-use Rattle.comlynx.specs.declared.reader.Reader.{Reader}
+use Rattle.comlynx.specs.Machine.{bodyMax, tooMany, keepOf, advanceOf}
 use Rattle.comlynx.specs.declared.reader.Move.{Move}
 use Rattle.comlynx.specs.declared.reader.Move.the-variants.{Skip, Open, Mark, Spoil, Keep, Over, Close, Fail}
 
@@ -74,20 +72,3 @@ asked stage n b =
     (by-cond n (eqb stage 2) _ _
     (by-cond n (eqb b flag) Fail _ tt (by-cond n (eqb b 0x5E) _ _ (keep-asked n flag) (by-cond n (eqb b 0x5D) _ Spoil (keep-asked n escape) tt)))
     (by-cond n (eqb b flag) Fail Skip tt tt)))
-
-pub stays-in-range : (s : Reader) (b : ℕ) → b < 256 → inRange s ≡ true → inRange (next s b .state) ≡ true
-unfolding next moved
-stays-in-range s b lt e = go (advanceOf (s .stage) (s .count) b) (asked (s .stage) (s .count) b)
-  where
-    few : s .count ≤ tooMany
-    few = range-count (s .stage) (s .count) (range-of (s .stage) (s .count) e)
-
-    go : (m : Move) → Asked (s .count) m → inRange (moved m s .state) ≡ true
-    go Skip h = e
-    go Open h = in-range 1 0 (within (omega arith) (omega arith) (omega arith))
-    go Mark h = in-range 2 (s .count) (within (omega arith) (omega arith) few)
-    go Spoil h = in-range 3 (s .count) (within (omega arith) (omega arith) few)
-    go (Keep v) h = in-range 1 (s .count + 1) (within (omega arith) (omega arith) (omega arith))
-    go Over h = in-range 1 tooMany (within (omega arith) (omega arith) (omega arith))
-    go Close h = in-range 1 0 (within (omega arith) (omega arith) (omega arith))
-    go Fail h = in-range 1 0 (within (omega arith) (omega arith) (omega arith))

@@ -1,7 +1,7 @@
 -- What the inner functions promise. No public promise cites these.
 use Prim.Native.Nat.{ℕ, _+_, _-_, _≤_, _<_}
 use mathlib.Core.Path.{_≡_}
-use mathlib.Core.Bool.{Bool, _&&_}
+use mathlib.Core.Bool.{Bool, true, _&&_}
 use mathlib.Core.Option.{Option, none, some}
 use mathlib.Core.List.{List, [], _∷_, _++_}
 use lib.ListN.{length, take, drop, getD}
@@ -13,7 +13,7 @@ use Rattle.stream.specs.Call.{retold}
 use Rattle.stream.specs.Pieces.{scan, scanFrom}
 use Rattle.comlynx.specs.Wire.{Message, dataMax, flag, escape, stuffed}
 use Rattle.comlynx.specs.Rules.{judged}
-use Rattle.comlynx.specs.Machine.{bodyMax, inside, closed, next}
+use Rattle.comlynx.specs.Machine.{bodyMax, inside, inRange, closed, next}
 use Rattle.comlynx.specs.Reader.{told, header}
 use Rattle.comlynx.specs.declared.reader.Answer.{Answer}
 use Rattle.comlynx.specs.declared.reader.Answer.the-variants.{Done, Message as Read, Damaged, Refused}
@@ -42,9 +42,10 @@ eventOf UsedUp held = none
 eventOf (Closed count) held = some (closed count held)
 eventOf Broken held = some (damage 2)
 
--- `run_in`: the scan of the piece
+-- `run_in`: the scan of the piece, which ends in a state in range
 pub record Runs (stage count : ℕ) (held piece : List ℕ) (r : Ran) (later : List ℕ) : Type 0 where
   pub sized : length later ≡ length held
+  pub ranged : inRange (r .stage) (r .count) ≡ true
   pub scanned :
       scan next (record { held = held; stage = stage; count = count }) piece
       ≡ record { state = record { held = later; stage = r .stage; count = r .count }; event = eventOf (r .end) later; used = r .used }

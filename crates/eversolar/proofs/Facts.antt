@@ -25,7 +25,6 @@ use Rattle.eversolar.specs.Machine as Machine
 use Rattle.eversolar.specs.Reader.{inRange, header, join, shown}
 use Rattle.eversolar.specs.Demands.{eversolar}
 use Rattle.eversolar.proofs.WordLaws.{word-length, word-bytes, word-again}
-use Rattle.eversolar.proofs.Range.{stays-in-range}
 use Rattle.eversolar.proofs.Frame.{wire-length}
 use Rattle.eversolar.proofs.Follows.{Rests, rule-found, fresh-rests}
 
@@ -105,9 +104,14 @@ facts = record {
   wire-bytes = wire-bytes;
   inRange = inRange;
   fresh-in-range = refl;
-  stays-in-range = stays-in-range;
   steps = steps-seen next inRange header (λ m. m .bytes) shown join joins;
+  stays-in-range = λ s piece lent later r st. st .2;
   keeps = steps-keeps next inRange header (λ m. m .bytes) shown join joins;
   writes = λ m lent later w n. writes-frame (ltb dataMax (length (m .bytes))) (wire m) lent later w n;
   writes-nothing = λ m lent later w. writes-nothing (ltb dataMax (length (m .bytes))) (wire m) lent later w;
 }
+
+-- the machine that they speak of
+pub machine : facts .next ≡ next
+unfolding facts
+machine = refl

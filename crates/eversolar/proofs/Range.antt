@@ -1,16 +1,14 @@
--- The range of each stage, and that every byte keeps it.
+-- The range of each stage, and what is known where a state in range is asked something.
 -- Assumes nothing.
 use Prim.Native.Nat.{ℕ, _+_, _≤_, _<_}
 use mathlib.Core.Path.{_≡_, refl, ap, _∙_}
-use mathlib.Core.Bool.{Bool, true, false, cond, _&&_}
+use mathlib.Core.Bool.{Bool, true, false, cond}
 use lib.Dec.{eqb, ltb, leb}
 use borrow.Author.Tests.{lt-ltb, le-ltb, eq-eqb, ne-eqb, le-leb, ltb-true, ltb-false, leb-true, eqb-true}
 use native.Mathlib.Omega.{arith}
-use Rattle.eversolar.specs.Wire.{dataMax, firstMark, secondMark}
+use Rattle.eversolar.specs.Wire.{dataMax}
 use Rattle.eversolar.specs.Machine as Machine
-use Rattle.eversolar.specs.Machine.{bodyMax, lookedOf, most, advanceOf, on, holding, moved, next}
-use Rattle.eversolar.specs.Reader.{inRange}
-use Rattle.eversolar.specs.declared.reader.Reader.{Reader}
+use Rattle.eversolar.specs.Machine.{bodyMax, most, advanceOf}
 use Rattle.eversolar.specs.declared.reader.Move.{Move}
 use Rattle.eversolar.specs.declared.reader.Move.the-variants.{Keep, Size, Close}
 
@@ -54,19 +52,6 @@ pub range-idle : (stage count len : ℕ) → Range stage count len → stage < 2
 range-idle stage count len (look p q r) h = (q, r)
 range-idle stage count len (head p q r) h = absurd (omega arith)
 range-idle stage count len (body p q r s) h = absurd (omega arith)
-
--- ---- looking leads to looking or to the head
-
--- whatever holds of three numbers holds of the one that two tests choose
-of-three : (P : ℕ → Type 0) (t u : Bool) {x y z : ℕ} → P x → P y → P z → P (cond t x (cond u y z))
-of-three P true u p q r = p
-of-three P false true p q r = q
-of-three P false false p q r = r
-
-pub looked-stage : (stage b len count : ℕ) → len ≡ 0 → count ≡ 0 → Range (lookedOf stage b) count len
-unfolding lookedOf
-looked-stage stage b len count p q =
-    of-three (λ (s : ℕ). Range s count len) (eqb stage 1 && eqb b secondMark) (eqb b firstMark) (head refl (omega arith) p) (look (omega arith) q p) (look (omega arith) q p)
 
 -- ---- what is known where a state in range is asked this since AA 55
 
@@ -114,22 +99,3 @@ asked stage count len s (body p q r t) = rw (ne-eqb stage 2 (λ e. omega arith))
     go : (u : Bool) → ltb count (most stage len) ≡ u → Asked stage count len (cond u Keep Close)
     go true e = (ltb-true count (most stage len) e, omega (arith, limit, ltb-true count (most stage len) e))
     go false e = (p, omega (arith, limit, ltb-false count (most stage len) e))
-
-pub stays-in-range : (s : Reader) (b : ℕ) → b < 256 → inRange s ≡ true → inRange (next s b .state) ≡ true
-unfolding next moved
-stays-in-range s b lt e = go (ltb (s .stage) 2) refl (range-of (s .stage) (s .count) (s .len) e)
-  where
-    looks : Range (s .stage) (s .count) (s .len) → s .stage < 2 → Machine.inRange (lookedOf (s .stage) b) (s .count) (s .len) ≡ true
-    looks (look p q r) h = in-range (lookedOf (s .stage) b) (s .count) (s .len) (looked-stage (s .stage) b (s .len) (s .count) r q)
-    looks (head p q r) h = absurd (omega arith)
-    looks (body p q r t) h = absurd (omega arith)
-
-    moves : (m : Move) → Asked (s .stage) (s .count) (s .len) m → Range (s .stage) (s .count) (s .len) → 2 ≤ s .stage → inRange (moved m s b .state) ≡ true
-    moves Keep h r le = in-range (s .stage) (s .count + 1) (s .len) (keeps-range (s .stage) (s .count) (s .len) (s .count + 1) le r (omega arith) (omega (arith, h .0)))
-    moves Size h r le = in-range 3 7 b (body refl (omega arith) (omega arith) (omega arith))
-    moves Close h r le = in-range 0 0 0 (look (omega arith) refl refl)
-
-    go : (t : Bool) → ltb (s .stage) 2 ≡ t → Range (s .stage) (s .count) (s .len)
-        → inRange (cond t (on (holding (lookedOf (s .stage) b) (s .len) (s .count) (s .held))) (moved (advanceOf (s .stage) (s .count) (s .len)) s b) .state) ≡ true
-    go true e r = looks r (ltb-true (s .stage) 2 e)
-    go false e r = moves (advanceOf (s .stage) (s .count) (s .len)) (asked (s .stage) (s .count) (s .len) (ltb-false (s .stage) 2 e) r) r (ltb-false (s .stage) 2 e)

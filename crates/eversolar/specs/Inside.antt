@@ -1,6 +1,7 @@
 -- What the inner functions promise. No public promise cites these.
 use Prim.Native.Nat.{ℕ, _+_, _-_, _≤_, _<_}
 use mathlib.Core.Path.{_≡_}
+use mathlib.Core.Bool.{true}
 use mathlib.Core.Option.{Option, none, some}
 use mathlib.Core.List.{List, _++_}
 use lib.ListN.{length, take, drop, getD}
@@ -10,7 +11,7 @@ use Rattle.stream.specs.Call.{retold}
 use Rattle.stream.specs.Pieces.{scan, scanFrom}
 use Rattle.eversolar.specs.Words.{word}
 use Rattle.eversolar.specs.Wire.{Message, dataMax, judged}
-use Rattle.eversolar.specs.Machine.{holding, most, next}
+use Rattle.eversolar.specs.Machine.{holding, inRange, most, next}
 use Rattle.eversolar.specs.Reader.{told, header}
 use Rattle.eversolar.specs.declared.reader.Answer.{Answer}
 use Rattle.eversolar.specs.declared.reader.Answer.the-variants.{Done, Message as Read, Damaged, Refused}
@@ -51,10 +52,11 @@ abbrev pub Fits : End → Type 0
 Fits UsedUp = Unit {0}
 Fits (Closed len last) = len ≤ dataMax
 
--- `run_in`: the scan of the piece
+-- `run_in`: the scan of the piece, which ends in a state in range
 pub record Runs (stage count len : ℕ) (held piece : List ℕ) (r : Ran) (later : List ℕ) : Type 0 where
   pub sized : length later ≡ length held
   pub fits : Fits (r .end)
+  pub ranged : inRange (r .stage) (r .count) (r .len) ≡ true
   pub scanned :
       scan next (holding stage len count held) piece
       ≡ record { state = holding (r .stage) (r .len) (r .count) later; event = eventOf (r .end) later; used = r .used }

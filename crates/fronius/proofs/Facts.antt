@@ -23,7 +23,6 @@ use Rattle.fronius.specs.Machine.{next}
 use Rattle.fronius.specs.Machine as Machine
 use Rattle.fronius.specs.Reader.{inRange, header, join, shown}
 use Rattle.fronius.specs.Demands.{fronius}
-use Rattle.fronius.proofs.Range.{stays-in-range}
 use Rattle.fronius.proofs.Follows.{Rests, rule-found, fresh-rests}
 
 -- ---- the rule reads what is written
@@ -78,9 +77,14 @@ facts = record {
   wire-bytes = wire-bytes;
   inRange = inRange;
   fresh-in-range = refl;
-  stays-in-range = stays-in-range;
   steps = steps-seen next inRange header (λ m. m .bytes) shown join joins;
+  stays-in-range = λ s piece lent later r st. st .2;
   keeps = steps-keeps next inRange header (λ m. m .bytes) shown join joins;
   writes = λ m lent later w n. writes-frame (ltb dataMax (length (m .bytes))) (wire m) lent later w n;
   writes-nothing = λ m lent later w. writes-nothing (ltb dataMax (length (m .bytes))) (wire m) lent later w;
 }
+
+-- the machine that they speak of
+pub machine : facts .next ≡ next
+unfolding facts
+machine = refl

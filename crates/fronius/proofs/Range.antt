@@ -1,4 +1,4 @@
--- The range of each stage, and that every byte keeps it.
+-- The range of each stage, and what is known where a state in range is asked something.
 -- Assumes nothing.
 use Prim.Native.Nat.{ℕ, _+_, _≤_, _<_}
 use mathlib.Core.Path.{_≡_, refl}
@@ -8,9 +8,7 @@ use borrow.Author.Tests.{eq-eqb, ne-eqb, le-leb, ltb-true, ltb-false, leb-true, 
 use native.Mathlib.Omega.{arith}
 use Rattle.fronius.specs.Wire.{mark}
 use Rattle.fronius.specs.Machine as Machine
-use Rattle.fronius.specs.Machine.{advanceOf, moved, next}
-use Rattle.fronius.specs.Reader.{inRange}
-use Rattle.fronius.specs.declared.reader.Reader.{Reader}
+use Rattle.fronius.specs.Machine.{advanceOf}
 use Rattle.fronius.specs.declared.reader.Move.{Move}
 use Rattle.fronius.specs.declared.reader.Move.the-variants.{Count, Open, Keep, Close, Bad}
 
@@ -66,14 +64,3 @@ asked stage count len b (body p q r) = rw (ne-eqb stage 0 (λ e. omega arith)) (
     go : (t : Bool) → ltb count (3 + len) ≡ t → Asked stage count len (cond t Keep Close)
     go true e = (p, q, ltb-true count (3 + len) e)
     go false e = (p, q, ltb-false count (3 + len) e)
-
-pub stays-in-range : (s : Reader) (b : ℕ) → b < 256 → inRange s ≡ true → inRange (next s b .state) ≡ true
-unfolding next moved
-stays-in-range s b lt e = go (advanceOf (s .stage) (s .count) (s .len) b) (asked (s .stage) (s .count) (s .len) b (range-of (s .stage) (s .count) (s .len) e))
-  where
-    go : (m : Move) → Asked (s .stage) (s .count) (s .len) m → inRange (moved m s b .state) ≡ true
-    go (Count n) h = in-range (s .stage) n (s .len) (start (h .0) (h .1) (h .2))
-    go (Open n) h = in-range 1 0 n (body refl h (omega arith))
-    go Keep h = in-range (s .stage) (s .count + 1) (s .len) (body (h .0) (h .1) (omega arith))
-    go Close h = in-range 0 0 0 (start refl (omega arith) refl)
-    go Bad h = in-range 0 0 0 (start refl (omega arith) refl)

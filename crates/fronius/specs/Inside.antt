@@ -1,6 +1,7 @@
 -- What the inner functions of the reader promise. No public promise cites these.
 use Prim.Native.Nat.{ℕ, _+_, _-_, _≤_}
 use mathlib.Core.Path.{_≡_}
+use mathlib.Core.Bool.{true}
 use mathlib.Core.Option.{Option, none, some}
 use mathlib.Core.List.{List, [], _∷_, _++_}
 use lib.ListN.{length, take, drop}
@@ -9,7 +10,7 @@ use Rattle.stream.specs.Event as Event
 use Rattle.stream.specs.Call.{retold}
 use Rattle.stream.specs.Pieces.{scan, scanFrom}
 use Rattle.fronius.specs.Wire.{Message, dataMax, mark, judged}
-use Rattle.fronius.specs.Machine.{filling, next}
+use Rattle.fronius.specs.Machine.{filling, inRange, next}
 use Rattle.fronius.specs.Reader.{told, header}
 use Rattle.fronius.specs.declared.reader.Answer.{Answer}
 use Rattle.fronius.specs.declared.reader.Answer.the-variants.{Done, Message as Read, Damaged, Refused}
@@ -41,10 +42,11 @@ Fits UsedUp = Unit {0}
 Fits (Closed len sum) = len ≤ dataMax
 Fits BadLength = Unit {0}
 
--- `run_in`: the scan of the piece
+-- `run_in`: the scan of the piece, which ends in a state in range
 pub record Runs (stage count len : ℕ) (held piece : List ℕ) (r : Ran) (later : List ℕ) : Type 0 where
   pub sized : length later ≡ length held
   pub fits : Fits (r .end)
+  pub ranged : inRange (r .stage) (r .count) (r .len) ≡ true
   pub scanned :
       scan next (record { held = held; stage = stage; count = count; len = len }) piece
       ≡ record { state = record { held = later; stage = r .stage; count = r .count; len = r .len }; event = eventOf (r .end) later; used = r .used }

@@ -24,18 +24,21 @@ module _ {S M H R : Type 0} (next : S → ℕ → Moved S (Event M)) (inRange : 
   -- ---- how a `step` shows its promise, at each of its three ends
 
   by-call : (s : S) (piece lent later : List ℕ) (r : R) (c : Seen S M) → called next inRange s piece lent ≡ c → shown r ≡ retells header c → later ≡ delivered bytes (c .told) lent
-      → Steps next inRange header bytes shown s piece lent r later
-  by-call s piece lent later r c e x y = subst (λ (v : Seen S M). (shown r ≡ retells header v) × (later ≡ delivered bytes (v .told) lent)) (sym e) (x, y)
+      → (inRange s ≡ true → inRange (c .state) ≡ true) → Steps next inRange header bytes shown s piece lent r later
+  by-call s piece lent later r c e x y k =
+      subst (λ (v : Seen S M). (shown r ≡ retells header v) × (later ≡ delivered bytes (v .told) lent) × (inRange s ≡ true → inRange (shown r .state) ≡ true)) (sym e)
+      (x, y, λ i. ap (λ (v : Seen S H). inRange (v .state)) x ∙ k i)
 
   pub steps-spoilt : (s : S) (piece lent : List ℕ) (r : R) → inRange s ≡ false → shown r ≡ refused 18 s → Steps next inRange header bytes shown s piece lent r lent
-  steps-spoilt s piece lent r o x = by-call s piece lent lent r (refused 18 s) (rw o) x refl
+  steps-spoilt s piece lent r o x = by-call s piece lent lent r (refused 18 s) (rw o) x refl (λ i. i)
 
   pub steps-no-room : (s : S) (piece lent : List ℕ) (r : R) → inRange s ≡ true → length lent < lentLeast → shown r ≡ refused 9 s → Steps next inRange header bytes shown s piece lent r lent
-  steps-no-room s piece lent r i h x = by-call s piece lent lent r (refused 9 s) (rw (i, lt-ltb (length lent) lentLeast h)) x refl
+  steps-no-room s piece lent r i h x = by-call s piece lent lent r (refused 9 s) (rw (i, lt-ltb (length lent) lentLeast h)) x refl (λ k. k)
 
   pub steps-scan : (s : S) (piece lent later : List ℕ) (r : R) (c : Called S (Event M)) → inRange s ≡ true → lentLeast ≤ length lent → scan next s piece ≡ c
-      → shown r ≡ retells header (answered c) → later ≡ delivered bytes (told (c .event)) lent → Steps next inRange header bytes shown s piece lent r later
-  steps-scan s piece lent later r c i h e x y = by-call s piece lent later r (answered c) (in-room next inRange s piece lent i h ∙ ap answered e) x y
+      → shown r ≡ retells header (answered c) → later ≡ delivered bytes (told (c .event)) lent → inRange (c .state) ≡ true
+      → Steps next inRange header bytes shown s piece lent r later
+  steps-scan s piece lent later r c i h e x y k = by-call s piece lent later r (answered c) (in-room next inRange s piece lent i h ∙ ap answered e) x y (λ o. k)
 
   -- where a header and the data that stand in the buffer make up the message
   module _ (join : H → List ℕ → M) (joins : (m : M) (rest : List ℕ) → join (header m) (bytes m ++ rest) ≡ m) where

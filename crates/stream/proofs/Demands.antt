@@ -1,7 +1,7 @@
 -- The demands, for every family that shows its facts.
 -- Assumes nothing.
 use Prim.Native.Nat.{ℕ, zero, suc, _+_, _≤_}
-use mathlib.Core.Path.{_≡_, refl, sym, ap, ap₂, _∙_, subst}
+use mathlib.Core.Path.{_≡_, refl, sym, ap, ap₂, _∙_}
 use mathlib.Core.Bool.{Bool, true, false, cond}
 use mathlib.Core.Option.{Option, none, some}
 use mathlib.Core.List.{List, [], _∷_, _++_, map, flatten, append-assoc}
@@ -13,13 +13,13 @@ use Rattle.stream.specs.Event.{Event, message, Told, done, gives, refuse
 use Rattle.stream.specs.Pieces.{Moved, Called, scan}
 use Rattle.stream.specs.Call.{Seen, lentLeast, refused, answered, called}
 use Rattle.stream.specs.Written.{written, ended, Each}
-use Rattle.stream.specs.Rule.{Placed, andOn, firstReadings}
+use Rattle.stream.specs.Rule.{Placed, andOn, firstReadings, readings}
 use Rattle.stream.specs.Family.{Family, Call, toldBefore, sees, Allowed, used, toldFrom, Serves, ends, turns, calls}
 use Rattle.stream.specs.Demands.{asTold, Accepts, ReadsBack, Handed, InPieces, UsedUp, Different, Kept, NeverSpoilt}
-use Rattle.stream.proofs.Bytes.{bytes-append, bytes-left, bytes-right, bytes-take, bytes-drop}
+use Rattle.stream.proofs.Bytes.{bytes-append, bytes-drop}
 use Rattle.stream.proofs.Run.{placedBefore, events, placed, placed-events, scan-placed}
-use Rattle.stream.proofs.Loop.{scan-used, scan-uses, scan-none, scan-front, scan-keeps}
-use Rattle.stream.proofs.Written.{Reads, given, told-apart}
+use Rattle.stream.proofs.Loop.{scan-used, scan-uses, scan-none, scan-front}
+use Rattle.stream.proofs.Written.{Reads, all-given, given, told-apart}
 use Rattle.stream.proofs.Call.{in-room}
 use Rattle.stream.proofs.Facts.{found, Facts}
 
@@ -76,14 +76,6 @@ module _ {S M : Type 0} (next : S → ℕ → Moved S (Event M)) (inRange : S �
       go false none e h = done-refuses (ap told (sym e) ∙ h)
       go false (some x) e h = gives-refuses (ap told (sym e) ∙ h)
 
-  stays : inRange s ≡ true → inRange (scan next s piece .state) ≡ true → inRange (called next inRange s piece lent .state) ≡ true
-  stays r k = go (inRange s) (ltb (length lent) lentLeast) r
-    where
-      go : (t u : Bool) → t ≡ true → inRange (cond t (cond u (refused {M = M} 9 s) (answered (scan next s piece))) (refused 18 s) .state) ≡ true
-      go true true e = r
-      go true false e = k
-      go false u e = r
-
 -- ---- what is told is what the bytes used come to, each event at its place
 
 told-placed : {M : Type 0} (o : Option (Event M)) (at : ℕ) (ps : List (Placed (Event M))) → toldBefore (told o) at (map asTold ps) ≡ map asTold (placedBefore o at ps)
@@ -122,7 +114,7 @@ module _ (F : Family) (facts : Facts F) where
   shorter n s [] h = simp length-drop (omega arith)
   shorter n s (b ∷ bs) h = simp length-drop (omega (arith, scan-uses (facts .next) s (b ∷ bs) (omega arith)))
 
-  ruled : (n : ℕ) (bs : List ℕ) → length bs ≤ n → (known : F .Known) (s : F .State) → facts .At known s → T (areBytes bs) → (at : ℕ)
+  pub ruled : (n : ℕ) (bs : List ℕ) → length bs ≤ n → (known : F .Known) (s : F .State) → facts .At known s → T (areBytes bs) → (at : ℕ)
       → placed (facts .next) at s bs ≡ firstReadings (F .rule) (F .afterEvent) n known at bs
   ruled zero [] h known s a g at = refl
   ruled zero (b ∷ bs) h known s a g at = absurd (omega arith)
@@ -137,16 +129,22 @@ module _ (F : Family) (facts : Facts F) where
       (λ e p. ruled n (drop u bs) (shorter n s bs h) (F .afterEvent) t (f .goes-on e p) (bytes-drop u bs g) (at + u))
       ∙ ap (λ (o : Option (Placed (Event (F .Message)))). andOn at o (λ v. firstReadings (F .rule) (F .afterEvent) n (F .afterEvent) (at + v) (drop v bs))) (sym (f .finds))
 
+  -- and so without the places: from fresh, the events of the machine are those that the rule finds
+  pub events-found : (bs : List ℕ) → T (areBytes bs)
+      → events (facts .next) (F .fresh) bs ≡ map (λ p. p .event) (readings (F .rule) (F .afterEvent) (F .atStart) bs)
+  events-found bs g =
+      sym (placed-events (facts .next) 0 (F .fresh) bs)
+      ∙ ap (map (λ p. p .event)) (ruled (length bs) bs (omega arith) (F .atStart) (F .fresh) (facts .at-start) g 0)
+
   -- what the calls told is what the machine makes of the bytes they used
-  told-is : (cs : List (Call (F .Result))) (s : F .State) → facts .inRange s ≡ true → Allowed F s cs → T (areBytes (used F cs)) → (at : ℕ)
+  told-is : (cs : List (Call (F .Result))) (s : F .State) → facts .inRange s ≡ true → Allowed F s cs → (at : ℕ)
       → toldFrom F at cs ≡ map asTold (placed (facts .next) at s (used F cs))
-  told-is [] s r al g at = refl
-  told-is (c ∷ cs) s r al g at =
+  told-is [] s r al at = refl
+  told-is (c ∷ cs) s r al at =
       let next = facts .next in
       let one : sees F c ≡ answered (scan next s (c .piece)) = facts .steps s (c .piece) (c .lent) (c .later) (c .result) (al .1) ∙ in-room next (facts .inRange) s (c .piece) (c .lent) r (al .0) in
-      let front : T (areBytes (take (scan next s (c .piece) .used) (c .piece))) = subst (λ (v : Seen (F .State) (F .Message)). T (areBytes (take (v .used) (c .piece)))) one (bytes-left (take (sees F c .used) (c .piece)) (used F cs) g) in
-      let kept : facts .inRange (scan next s (c .piece) .state) ≡ true = scan-keeps next (λ t. facts .inRange t ≡ true) (facts .stays-in-range) s (c .piece) front r in
-      let rest = told-is cs (sees F c .state) (ap (λ (v : Seen (F .State) (F .Message)). facts .inRange (v .state)) one ∙ kept) (al .2) (bytes-right (take (sees F c .used) (c .piece)) (used F cs) g) (at + sees F c .used) in
+      let kept = facts .stays-in-range s (c .piece) (c .lent) (c .later) (c .result) (al .1) r in
+      let rest = told-is cs (sees F c .state) kept (al .2) (at + sees F c .used) in
       ap (toldBefore (sees F c .told) (at + sees F c .used)) rest
       ∙ ap (λ (v : Seen (F .State) (F .Message)). toldBefore (v .told) (at + v .used) (map asTold (placed next (at + v .used) (v .state) (used F cs)))) one
       ∙ told-placed (scan next s (c .piece) .event) _ _
@@ -155,7 +153,7 @@ module _ (F : Family) (facts : Facts F) where
 
   pub accepts : Accepts F
   accepts cs al g =
-      told-is cs (F .fresh) (facts .fresh-in-range) al g 0
+      told-is cs (F .fresh) (facts .fresh-in-range) al 0
       ∙ ap (map asTold) (ruled (length (used F cs)) (used F cs) (omega arith) (F .atStart) (F .fresh) (facts .at-start) g 0)
 
   -- a state in which a message may begin to be read
@@ -188,7 +186,11 @@ module _ (F : Family) (facts : Facts F) where
       let seen = facts .steps (F .fresh) (take n frame ++ rest) lent later r st ∙ in-room next (facts .inRange) (F .fresh) (take n frame ++ rest) lent (facts .fresh-in-range) h ∙ ap answered whole in
       (ap (λ (v : Seen (F .State) (F .Message)). v .told) seen, ap (λ (v : Seen (F .State) (F .Message)). v .used) seen ∙ sym (wrote .1))
 
-  written-bytes : (ms : List (F .Message)) → Each (F .Takes) ms → T (areBytes (written (F .wire) ms))
+  -- messages written one after another come to those messages, in order, and to nothing else; and they are bytes
+  pub events-written : (ms : List (F .Message)) → Each (F .Takes) ms → events (facts .next) (F .fresh) (written (F .wire) ms) ≡ map message ms
+  events-written = all-given (facts .next) (F .wire) message (F .Takes) Rest reads-at-rest (F .fresh) fresh-rests
+
+  pub written-bytes : (ms : List (F .Message)) → Each (F .Takes) ms → T (areBytes (written (F .wire) ms))
   written-bytes [] g = tt
   written-bytes (m ∷ ms) g = bytes-append (F .wire m) (written (F .wire) ms) (facts .wire-bytes m (g .0)) (written-bytes ms (g .1))
 
@@ -203,8 +205,7 @@ module _ (F : Family) (facts : Facts F) where
   pub handed : Handed F
   handed ms g n cs al cut =
       let next = facts .next in
-      let bytes : T (areBytes (used F cs)) = subst (λ (l : List ℕ). T (areBytes l)) (sym cut) (bytes-take n (written (F .wire) ms) (written-bytes ms g)) in
-      ap (map (λ p. p .event)) (told-is cs (F .fresh) (facts .fresh-in-range) al bytes 0)
+      ap (map (λ p. p .event)) (told-is cs (F .fresh) (facts .fresh-in-range) al 0)
       ∙ told-events (placed next 0 (F .fresh) (used F cs))
       ∙ ap (map gives) (placed-events next 0 (F .fresh) (used F cs) ∙ ap (events next (F .fresh)) cut
       ∙ given next (F .wire) message (F .Takes) Rest reads-at-rest (F .fresh) fresh-rests ms g n)
@@ -237,12 +238,10 @@ module _ (F : Family) (facts : Facts F) where
   pub never-spoilt : NeverSpoilt F
   never-spoilt = (
     λ piece lent later r st e. never (F .fresh) piece lent later r (facts .fresh-in-range) st e,
-    λ s piece lent later r g st n piece′ lent′ later′ r′ st′ e.
-        let next = facts .next in
+    λ s piece lent later r st n piece′ lent′ later′ r′ st′ e.
         let seen = facts .steps s piece lent later r st in
-        let good : facts .inRange s ≡ true = not-spoilt next (facts .inRange) s piece lent (λ q. n (ap (λ (v : Seen (F .State) (F .Message)). v .told) seen ∙ q)) in
-        let kept : facts .inRange (scan next s piece .state) ≡ true = scan-keeps next (λ t. facts .inRange t ≡ true) (facts .stays-in-range) s piece (bytes-take (scan next s piece .used) piece g) good in
-        never (F .seen r later .state) piece′ lent′ later′ r′ (ap (λ (v : Seen (F .State) (F .Message)). facts .inRange (v .state)) seen ∙ stays next (facts .inRange) s piece lent good kept) st′ e,
+        let good : facts .inRange s ≡ true = not-spoilt (facts .next) (facts .inRange) s piece lent (λ q. n (ap (λ (v : Seen (F .State) (F .Message)). v .told) seen ∙ q)) in
+        never (F .seen r later .state) piece′ lent′ later′ r′ (facts .stays-in-range s piece lent later r st good) st′ e,
   )
     where
       never : (s : F .State) (piece lent later : List ℕ) (r : F .Result) → facts .inRange s ≡ true → F .Steps s piece lent r later → F .seen r later .told ≡ refuses 18 → ⊥

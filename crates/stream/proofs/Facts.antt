@@ -1,6 +1,6 @@
 -- THE FACTS THAT A FAMILY HAS TO SHOW. The demands follow from them, for every family alike: `proofs/Demands.antt`.
 -- Assumes nothing.
-use Prim.Native.Nat.{ℕ, _<_}
+use Prim.Native.Nat.{ℕ}
 use mathlib.Core.Path.{_≡_}
 use mathlib.Core.Bool.{Bool, true}
 use mathlib.Core.Option.{Option, none, some}
@@ -33,11 +33,11 @@ pub record Facts (F : Family) : Type 1 where
   -- and of writing: the rule reads what is written, all of it bytes
   pub reads : (known : F .Known) (m : F .Message) → F .Takes m → F .rule known (F .wire m) ≡ some (record { event = message m; place = length (F .wire m) })
   pub wire-bytes : (m : F .Message) → F .Takes m → T (areBytes (F .wire m))
-  -- the calls do as the machine, from the states in range; and the writer writes the wire's bytes, or nothing
+  -- the calls do as the machine, from the states in range, and lead to such states; and the writer writes the wire's bytes, or nothing
   pub inRange : F .State → Bool
   pub fresh-in-range : inRange (F .fresh) ≡ true
-  pub stays-in-range : (s : F .State) (b : ℕ) → b < 256 → inRange s ≡ true → inRange (next s b .state) ≡ true
   pub steps : (s : F .State) (piece lent later : List ℕ) (r : F .Result) → F .Steps s piece lent r later → F .seen r later ≡ called next inRange s piece lent
+  pub stays-in-range : (s : F .State) (piece lent later : List ℕ) (r : F .Result) → F .Steps s piece lent r later → inRange s ≡ true → inRange (F .seen r later .state) ≡ true
   pub keeps : (s : F .State) (piece lent later : List ℕ) (r : F .Result) → F .Steps s piece lent r later
       → ((m : F .Message) → F .seen r later .told ≡ gives (message m) → ⊥) → later ≡ lent
   pub writes : (m : F .Message) (lent later : List ℕ) (w : F .Written) (n : ℕ) → F .Writes m lent w later → F .wrote w ≡ some n

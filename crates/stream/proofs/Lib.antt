@@ -4,6 +4,7 @@ pub mod Run
 pub mod Loop
 pub mod Written
 pub mod Call
+pub mod Host
 pub mod Facts
 pub mod Follows
 pub mod Demands

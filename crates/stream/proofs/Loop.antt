@@ -4,15 +4,12 @@ use Prim.Native.Nat.{ℕ, suc, _+_, _≤_, _<_}
 use mathlib.Core.Path.{_≡_, refl, ap}
 use mathlib.Core.Option.{Option, none, some}
 use mathlib.Core.List.{List, [], _∷_, _++_}
-use lib.ListN.{length, take, getD, drop-of-length-le}
+use lib.ListN.{length, getD, drop-of-length-le}
 use lib.Seq.{drop-cons}
-use lib.Dec.{T}
-use lib.Pow.{areBytes}
 use native.Mathlib.Numerals.{add-one}
 use native.Mathlib.Nat.{zero-add, suc-add, add-suc, add-zero}
 use native.Mathlib.Omega.{arith}
 use Rattle.stream.specs.Pieces.{Moved, settle, scan, scanFrom}
-use Rattle.stream.proofs.Bytes.{bytes-head, bytes-tail}
 
 module _ {S E : Type 0} (next : S → ℕ → Moved S E) where
   -- A LOOP'S INVARIANT is that `scanFrom`, at its state and its place, is the whole call. It holds at the start
@@ -67,16 +64,3 @@ module _ {S E : Type 0} (next : S → ℕ → Moved S E) where
   pub scan-front : (s : S) (w rest : List ℕ) (e : E) → scan next s w .event ≡ some e → scan next s (w ++ rest) ≡ scan next s w
   scan-front s [] rest e h = let z : _≡_ {A = ℕ} 0 1 = cc in absurd (omega arith)
   scan-front s (b ∷ w) rest e h = settled-front (next s b .event) (next s b .state) w rest e (scan-front (next s b .state) w rest e) h
-
-  -- what every byte keeps, a call keeps whose used bytes are bytes: a reader hands back a state in range
-  settled-keeps : (Keeps : S → Type 0) (o : Option E) (t : S) (b : ℕ) (bs : List ℕ) → T (areBytes (take (settle o t (scan next t bs) .used) (b ∷ bs))) → (b < 256 → Keeps t)
-      → (Keeps t → T (areBytes (take (scan next t bs .used) bs)) → Keeps (scan next t bs .state)) → Keeps (settle o t (scan next t bs) .state)
-  settled-keeps Keeps none t b bs g k h =
-      let front = take (scan next t bs .used) bs in
-      h (k (bytes-head b front g)) (bytes-tail b front g)
-  settled-keeps Keeps (some e) t b bs g k h = k (bytes-head b [] g)
-
-  pub scan-keeps : (Keeps : S → Type 0) → ((s : S) (b : ℕ) → b < 256 → Keeps s → Keeps (next s b .state)) → (s : S) (bs : List ℕ) → T (areBytes (take (scan next s bs .used) bs)) → Keeps s → Keeps (scan next s bs .state)
-  scan-keeps Keeps step s [] g k = k
-  scan-keeps Keeps step s (b ∷ bs) g k =
-      settled-keeps Keeps (next s b .event) (next s b .state) b bs g (λ h. step s b h k) (λ k′ g′. scan-keeps Keeps step (next s b .state) bs g′ k′)

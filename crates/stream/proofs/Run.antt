@@ -102,7 +102,7 @@ module _ {S E : Type 0} (next : S → ℕ → Moved S E) where
   settled-left none s b bs = simp length-drop (omega arith)
   settled-left (some e) s b bs = omega arith
 
-  calls-is : (n : ℕ) (s : S) (bs : List ℕ) → length bs ≤ n → calls next n s bs ≡ record { state = after s bs; events = events s bs; left = [] }
+  pub calls-is : (n : ℕ) (s : S) (bs : List ℕ) → length bs ≤ n → calls next n s bs ≡ record { state = after s bs; events = events s bs; left = [] }
   calls-is zero s [] h = refl
   calls-is zero s (b ∷ bs) h = absurd (omega arith)
   calls-is (suc n) s [] h = refl

@@ -1,7 +1,7 @@
 -- One call of a family's `step`, for every state, piece and lent buffer: what document 01's table of answers says of a reader.
 use Prim.Native.Nat.{ℕ}
 use mathlib.Core.Path.{_≡_}
-use mathlib.Core.Bool.{Bool, cond}
+use mathlib.Core.Bool.{Bool, true, cond}
 use mathlib.Core.List.{List, _++_}
 use lib.ListN.{length, drop}
 use lib.Dec.{ltb}
@@ -49,12 +49,13 @@ abbrev pub retells : {S M N : Type 0} → (M → N) → Seen S M → Seen S N
 retells f c = record { state = c .state; told = retold f (c .told); used = c .used }
 
 -- THE PROMISE OF `step`: its result, as `shown` reads it off, is the call's, with a message's header for the message,
--- since the data are in the lent buffer; and the lent buffer afterwards is as above
+-- since the data are in the lent buffer; the lent buffer afterwards is as above; and, whatever the piece, a state in range leads to
+-- a state in range: "18 is never given for a fresh state or one that a reader handed back with another answer"
 abbrev pub Steps : {S M H R : Type 0} → (S → ℕ → Moved S (Event M)) → (S → Bool) → (M → H) → (M → List ℕ) → (R → Seen S H)
     → S → List ℕ → List ℕ → R → List ℕ → Type 0
 Steps next inRange header bytes shown s piece lent r later =
     let c = called next inRange s piece lent in
-    (shown r ≡ retells header c) × (later ≡ delivered bytes (c .told) lent)
+    (shown r ≡ retells header c) × (later ≡ delivered bytes (c .told) lent) × (inRange s ≡ true → inRange (shown r .state) ≡ true)
 
 -- what a host sees of a result: a message is its header joined with the data at the front of the lent buffer
 abbrev pub seenBy : {S M H R : Type 0} → (H → List ℕ → M) → (R → Seen S H) → R → List ℕ → Seen S M

@@ -88,7 +88,7 @@ module _ (F : Family) where
   abbrev pub NeverSpoilt : Type 0
   NeverSpoilt =
       ((piece lent later : List ℕ) (r : F .Result) → F .Steps (F .fresh) piece lent r later → F .seen r later .told ≡ refuses 18 → ⊥)
-      × ((s : F .State) (piece lent later : List ℕ) (r : F .Result) → T (areBytes piece) → F .Steps s piece lent r later
+      × ((s : F .State) (piece lent later : List ℕ) (r : F .Result) → F .Steps s piece lent r later
       → (F .seen r later .told ≡ refuses 18 → ⊥)
       → (piece′ lent′ later′ : List ℕ) (r′ : F .Result) → F .Steps (F .seen r later .state) piece′ lent′ r′ later′
       → F .seen r′ later′ .told ≡ refuses 18 → ⊥)

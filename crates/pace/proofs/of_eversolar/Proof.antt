@@ -5,7 +5,7 @@ use Rattle.eversolar.specs.Reader.{inRange, header, told, shown}
 use Rattle.eversolar.specs.declared.reader.Header.{Header}
 use Rattle.eversolar.specs.declared.reader.Answer.{Answer}
 use Rattle.eversolar.specs.declared.reader.Answer.the-variants.{Done, Message as Read, Damaged}
-use Rattle.pace.proofs.Host.{Fine, step-used, step-uses, step-fits}
+use Rattle.stream.proofs.Host.{Fine, step-used, step-uses, step-fits}
 use native.Mathlib.Omega.{arith}
 use Prim.Native.Nat.{ℕ, _+_, _-_, _<_, _≤_}
 use mathlib.Core.Path.{_≡_, refl, sym, _∙_, ap, subst}

@@ -10,7 +10,7 @@ use Rattle.comlynx.specs.Machine.{tooMany, bodyMax, moved, next}
 use Rattle.comlynx.specs.declared.reader.Reader.{Reader}
 use Rattle.comlynx.specs.declared.reader.Move.{Move}
 use Rattle.comlynx.specs.declared.reader.Move.the-variants.{Skip, Open, Mark, Spoil, Keep, Over, Close, Fail}
-use Rattle.comlynx.proofs.Range.{Range, within, range-of, range-count, Asked, asked}
+use Rattle.comlynx.proofs.Range.{Range, within, range-of, in-range, range-count, Asked, asked}
 use native.Mathlib.Omega.{arith}
 use Prim.Native.Nat.{ℕ, _+_, _-_, _<_, _≤_}
 use mathlib.Core.Path.{_≡_, refl, sym, _∙_, ap}
@@ -179,7 +179,7 @@ returns : tie.Need-returns Inv-loop μ-loop
 unfolding moved
 returns c =
     let k = c .before .before in
-    record { sized = at k .loop .inv .2; scanned = tells k Close _ _ (c .enum-told6 .given .1) refl }
+    record { sized = at k .loop .inv .2; ranged = in-range _ _ (within (omega arith) (omega arith) (omega arith)); scanned = tells k Close _ _ (c .enum-told6 .given .1) refl }
 
 enum-told-7 : tie.Need-enum-told-7 Inv-loop μ-loop
 enum-told-7 c = search needs
@@ -188,13 +188,14 @@ returns-2 : tie.Need-returns-2 Inv-loop μ-loop
 unfolding moved
 returns-2 c =
     let k = c .before .before in
-    record { sized = at k .loop .inv .2; scanned = tells k Fail _ _ (c .enum-told7 .given .1) refl }
+    record { sized = at k .loop .inv .2; ranged = in-range _ _ (within (omega arith) (omega arith) (omega arith)); scanned = tells k Fail _ _ (c .enum-told7 .given .1) refl }
 
 returns-3 : tie.Need-returns-3 Inv-loop μ-loop
 returns-3 c =
     let l = c .before .loop in
     record {
       sized = l .inv .2;
+      ranged = in-range _ _ (l .inv .1);
       scanned = sym (l .inv .3) ∙ from-end next (record { held = l .held; stage = l .stage; count = l .count }) (c .before .before .before .args .piece .now) (l .i) (c .loop-test .left);
     }
 

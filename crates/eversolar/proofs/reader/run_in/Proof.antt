@@ -14,7 +14,7 @@ use Rattle.eversolar.specs.declared.reader.Place.{Place}
 use Rattle.eversolar.specs.declared.reader.Place.the-variants.{Found, End as AtEnd}
 use Rattle.eversolar.specs.declared.reader.Move.{Move}
 use Rattle.eversolar.specs.declared.reader.Move.the-variants.{Keep, Size, Close}
-use Rattle.eversolar.proofs.Range.{Range, look, head, body, range-of, range-len, range-idle, most-small, keeps-range, Asked, asked}
+use Rattle.eversolar.proofs.Range.{Range, look, head, body, range-of, in-range, range-len, range-idle, most-small, keeps-range, Asked, asked}
 use native.Mathlib.Omega.{arith}
 use Prim.Native.Nat.{ℕ, _+_, _-_, _<_, _≤_}
 use borrow.Author.Needs.{needs}
@@ -193,7 +193,7 @@ unfolding moved
 returns c =
     let k = c .before .before in
     let l = at k .loop in
-    record { sized = l .inv .2; fits = range-len _ _ _ (l .inv .1); scanned = tells k Close _ _ (c .enum-told3 .given .1) refl }
+    record { sized = l .inv .2; fits = range-len _ _ _ (l .inv .1); ranged = in-range _ _ _ (look (omega arith) refl refl); scanned = tells k Close _ _ (c .enum-told3 .given .1) refl }
 
 returns-2 : tie.Need-returns-2 Inv-loop μ-loop
 returns-2 c =
@@ -201,6 +201,7 @@ returns-2 c =
     record {
       sized = l .inv .2;
       fits = tt;
+      ranged = in-range _ _ _ (l .inv .1);
       scanned = sym (l .inv .3) ∙ from-end next (holding (l .stage) (l .len) (l .count) (l .held)) (c .before .before .before .args .piece .now) (l .i) (c .loop-test .left);
     }
 

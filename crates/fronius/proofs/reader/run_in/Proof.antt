@@ -12,7 +12,7 @@ use Rattle.fronius.specs.Machine.{moved, next}
 use Rattle.fronius.specs.declared.reader.Reader.{Reader}
 use Rattle.fronius.specs.declared.reader.Move.{Move}
 use Rattle.fronius.specs.declared.reader.Move.the-variants.{Count, Open, Keep, Close, Bad}
-use Rattle.fronius.proofs.Range.{Range, start, body, range-of, range-len, Asked, asked}
+use Rattle.fronius.proofs.Range.{Range, start, body, range-of, in-range, range-len, Asked, asked}
 use native.Mathlib.Omega.{arith}
 use Prim.Native.Nat.{ℕ, _+_, _-_, _<_, _≤_}
 use mathlib.Core.Path.{_≡_, refl, sym, _∙_, ap}
@@ -163,7 +163,7 @@ unfolding moved
 returns c =
     let k = c .before .before in
     let e = c .enum-told2 .given .1 in
-    record { sized = at k .loop .inv .2; fits = asks k Close e .1; scanned = tells k Close _ _ e refl }
+    record { sized = at k .loop .inv .2; fits = asks k Close e .1; ranged = in-range _ _ _ (start refl (omega arith) refl); scanned = tells k Close _ _ e refl }
 
 enum-told-3 : tie.Need-enum-told-3 Inv-loop μ-loop
 enum-told-3 c = search needs
@@ -172,7 +172,7 @@ returns-2 : tie.Need-returns-2 Inv-loop μ-loop
 unfolding moved
 returns-2 c =
     let k = c .before .before in
-    record { sized = at k .loop .inv .2; fits = tt; scanned = tells k Bad _ _ (c .enum-told3 .given .1) refl }
+    record { sized = at k .loop .inv .2; fits = tt; ranged = in-range _ _ _ (start refl (omega arith) refl); scanned = tells k Bad _ _ (c .enum-told3 .given .1) refl }
 
 returns-3 : tie.Need-returns-3 Inv-loop μ-loop
 returns-3 c =
@@ -180,6 +180,7 @@ returns-3 c =
     record {
       sized = l .inv .2;
       fits = tt;
+      ranged = in-range _ _ _ (l .inv .1);
       scanned = sym (l .inv .3) ∙ from-end next (record { held = l .held; stage = l .stage; count = l .count; len = l .len }) (c .before .before .before .args .piece .now) (l .i) (c .loop-test .left);
     }
 

@@ -62,7 +62,7 @@ ends : (c : tie.After-run-in) (later : List ℕ) (x : Answer) (o : Option (Event
 ends c later x o e f g =
     let a = start c .args in
     steps-scan next inRange header (λ m. m .bytes) shown (a .t1) (a .piece .now) (a .lent .now) later (record { reader = after c; answer = x; used = c .run-in .result .used }) _ (sound-at (c .before .before .before)) (c .before .before .if2 .left) e
-    (ap {B = Seen Reader Header} (λ t. record { state = after c; told = t; used = c .run-in .result .used }) f) g
+    (ap {B = Seen Reader Header} (λ t. record { state = after c; told = t; used = c .run-in .result .used }) f) g (c .run-in .ensures .ranged)
 
 -- where a stretch closed: the run, the count, the event by what is due, and what it delivers
 abbrev ran : tie.After-judge → tie.After-run-in

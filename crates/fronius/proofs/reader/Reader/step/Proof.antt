@@ -80,6 +80,7 @@ returns-2 c =
     steps-scan next inRange header (λ m. m .bytes) shown (a .t1) (a .piece .now) (a .lent .now) _ (record { reader = after r; answer = k .judge .result; used = r .run-in .result .used }) _ (sound-at (r .before .before .before)) (r .before .before .if2 .left) (r .run-in .ensures .scanned)
     (ap {B = Seen Reader Header} (λ t. record { state = after r; told = t; used = r .run-in .result .used }) (k .judge .ensures))
     (c .before .before .deliver .ensures ∙ judged k .1)
+    (r .run-in .ensures .ranged)
 
 returns-3 : tie.Need-returns-3
 returns-3 c =
