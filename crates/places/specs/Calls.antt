@@ -1,4 +1,4 @@
--- What the calls over a lent slice of places promise of their arguments, their results and the places afterwards:
+-- What the calls over places, lent as a slice or held by value, promise of their arguments, their results and the places afterwards:
 -- the rule of the roster, as it stands.
 use Prim.Native.Nat.{ℕ}
 use mathlib.Core.Path.{_≡_}

@@ -1,6 +1,13 @@
 // The roster of addresses, over a lent slice of 254 structs. A function over the slice only takes it apart and puts it together:
-// what is to be done is decided over its bytes, by `roster`.
+// what is to be done is decided over its bytes, by `roster`. `held` is the same over places by value.
+pub mod held;
+
 use answers::Refusal;
+pub use held::HeldGiven;
+pub use held::HeldRemoved;
+pub use held::find_held;
+pub use held::give_held;
+pub use held::remove_held;
 use roster::Found;
 use roster::Given;
 use roster::PLACE_SIZE;

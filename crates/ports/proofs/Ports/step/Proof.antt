@@ -1,0 +1,70 @@
+-- `Ports::step`: each way is that of the port's line: the call was made, and its answer is the one that the family's comes to.
+-- Assumes nothing.
+use mathlib.Core.Path.{refl}
+use borrow.Author.Needs.{needs}
+use Rattle.ports.proofs.Laws.{answered, line-1, line-2, line-3, line-else}
+use Rattle.ports.proofs.Ports.step.Statement.{statement}
+use Rattle.ports.proofs.Ports.step.Tie as tie
+
+step-requires : tie.Need-step-requires
+step-requires c κs = search needs
+
+comlynx-answer-requires : tie.Need-comlynx-answer-requires
+comlynx-answer-requires c κs = search needs
+
+same-length : tie.Need-same-length
+same-length c = search needs
+
+returns : tie.Need-returns
+returns c =
+    let s = c .before .before .before .before in
+    rw (line-1 (s .before .before .if1 .taken)) (s .step .result, s .step .ensures, answered _ _ (c .comlynx-answer .ensures))
+
+step-requires-2 : tie.Need-step-requires-2
+step-requires-2 c κs = search needs
+
+eversolar-answer-requires : tie.Need-eversolar-answer-requires
+eversolar-answer-requires c κs = search needs
+
+same-length-2 : tie.Need-same-length-2
+same-length-2 c = search needs
+
+returns-2 : tie.Need-returns-2
+returns-2 c =
+    let s = c .before .before .before .before in
+    rw (line-2 (s .before .before .if2 .taken)) (s .step2 .result, s .step2 .ensures, answered _ _ (c .eversolar-answer .ensures))
+
+step-requires-3 : tie.Need-step-requires-3
+step-requires-3 c κs = search needs
+
+fronius-answer-requires : tie.Need-fronius-answer-requires
+fronius-answer-requires c κs = search needs
+
+same-length-3 : tie.Need-same-length-3
+same-length-3 c = search needs
+
+returns-3 : tie.Need-returns-3
+returns-3 c =
+    let s = c .before .before .before .before in
+    rw (line-3 (s .before .before .if3 .taken)) (s .step3 .result, s .step3 .ensures, answered _ _ (c .fronius-answer .ensures))
+
+returns-4 : tie.Need-returns-4
+returns-4 c = rw (line-else (c .before .before .if1 .left) (c .before .if2 .left) (c .if3 .left)) (refl, refl)
+
+pub step-spec : {M : Type 1} → statement M
+step-spec =
+    tie.close
+    (tie.spec
+    step-requires
+    comlynx-answer-requires
+    same-length
+    returns
+    step-requires-2
+    eversolar-answer-requires
+    same-length-2
+    returns-2
+    step-requires-3
+    fronius-answer-requires
+    same-length-3
+    returns-3
+    returns-4)

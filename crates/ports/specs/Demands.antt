@@ -1,0 +1,77 @@
+-- What is demanded of the ports, over the promise of `Ports::step`: the ports keep apart, each reads as its family's reader does alone,
+-- 12 is for another port and for nothing else, and a refusal changes nothing.
+use Prim.Native.Nat.{ℕ, _≤_}
+use mathlib.Core.Path.{_≡_}
+use mathlib.Core.Logic.{_↔_}
+use mathlib.Core.List.{List, [], _∷_}
+use lib.ListN.{length}
+use Rattle.stream.specs.Call.{lentLeast}
+use Rattle.stream.specs.Family.{Family, Call, Allowed}
+use Rattle.ports.specs.Ports.{lineOf, number, Stands, onComlynx, onEversolar, onFronius, IsStep}
+use Rattle.ports.specs.declared.Ports.{Ports}
+use Rattle.ports.specs.declared.Step.{Step}
+
+-- ---- a call on one port leaves the readers of the others as they were
+
+-- a family's reader, where the call is on another line than its own
+abbrev pub ApartFrom : {F : Family} → Stands F → Type 0
+ApartFrom stands =
+    (ports : Ports) (port : ℕ) (piece lent later : List ℕ) (r : Step) → IsStep ports port piece lent r later
+    → (lineOf port ≡ stands .line → ⊥) → stands .reader (r .ports) ≡ stands .reader ports
+
+abbrev pub Apart : Type 0
+Apart = ApartFrom onComlynx × ApartFrom onEversolar × ApartFrom onFronius
+
+-- ---- on each port the family's reader reads as it does alone, so that the demands of the family hold there, however the ports interleave
+
+-- one call that was made: its port; piece, buffers and result
+pub record PortCall : Type 0 where
+  pub port : ℕ
+  pub call : Call Step
+
+-- CALLS ONE AFTER ANOTHER, each with the readers that the one before it handed back, each on any port, another than 1 to 3 too, with any
+-- piece and any buffer of at least 255 bytes: every sequence of them that the promise of `Ports::step` allows
+abbrev pub AllowedOn : Ports → List PortCall → Type 0
+AllowedOn ports [] = Unit {0}
+AllowedOn ports (c ∷ cs) =
+    (lentLeast ≤ length (c .call .lent))
+    × IsStep ports (c .port) (c .call .piece) (c .call .lent) (c .call .result) (c .call .later)
+    × AllowedOn (c .call .result .ports) cs
+
+-- a call on the ports, and a call of a family's reader: the same piece and buffers, and the result of the one is that of the other, put in its place
+pub record SameCall {F : Family} (stands : Stands F) (c : Call Step) (own : Call (F .Result)) : Type 0 where
+  pub piece : c .piece ≡ own .piece
+  pub lent : c .lent ≡ own .lent
+  pub result : c .result ≡ stands .result (c .result .ports) (own .result)
+  pub later : c .later ≡ own .later
+
+-- of calls on any ports those on a family's line, in order, as calls of its reader
+pub data OwnCalls {F : Family} (stands : Stands F) : List PortCall → List (Call (F .Result)) → Type 0 where
+  ends : OwnCalls stands [] []
+  another : {c : PortCall} {cs : List PortCall} {owns : List (Call (F .Result))}
+      → (lineOf (c .port) ≡ stands .line → ⊥) → OwnCalls stands cs owns → OwnCalls stands (c ∷ cs) owns
+  its : {c : PortCall} {cs : List PortCall} {own : Call (F .Result)} {owns : List (Call (F .Result))}
+      → lineOf (c .port) ≡ stands .line → SameCall stands (c .call) own → OwnCalls stands cs owns → OwnCalls stands (c ∷ cs) (own ∷ owns)
+
+-- they are calls that the family's own promise allows, from the reader that stands there
+abbrev pub Alone : {F : Family} → Stands F → Type 0
+Alone {F} stands =
+    (ports : Ports) (cs : List PortCall) → AllowedOn ports cs
+    → (owns : List (Call (F .Result))) × OwnCalls stands cs owns × Allowed F (stands .reader ports) owns
+
+abbrev pub EachAlone : Type 0
+EachAlone = Alone onComlynx × Alone onEversolar × Alone onFronius
+
+-- ---- refusals
+
+-- after one, 8 and above, the readers are unchanged, nothing is used, and the lent buffer holds what it held
+abbrev pub Kept : Type 0
+Kept =
+    (ports : Ports) (port : ℕ) (piece lent later : List ℕ) (r : Step) → IsStep ports port piece lent r later
+    → 8 ≤ number (r .answer) → (r .ports ≡ ports) × (r .used ≡ 0) × (later ≡ lent)
+
+-- 12 is given exactly for another port than 1 to 3
+abbrev pub WrongPort : Type 0
+WrongPort =
+    (ports : Ports) (port : ℕ) (piece lent later : List ℕ) (r : Step) → IsStep ports port piece lent r later
+    → (number (r .answer) ≡ 12) ↔ ((1 ≤ port) × (port ≤ 3) → ⊥)

@@ -1,0 +1,139 @@
+// The readers of all ports side by side, one a port. A call goes to the reader of its port and leaves the others as they are.
+use answers::Damage;
+use answers::Refusal;
+ghost use mathlib.Core.Path.{_≡_};
+ghost use Rattle.ports.specs.Ports.{comlynxAnswer, eversolarAnswer, froniusAnswer, IsFresh, IsStep};
+
+// Which port has which family.
+const COMLYNX: u8 = 1;
+
+const EVERSOLAR: u8 = 2;
+
+const FRONIUS: u8 = 3;
+
+// What the bytes read so far on each port have led to.
+pub struct Ports {
+    // port 1
+    pub comlynx: comlynx::Reader,
+    // port 2
+    pub eversolar: eversolar::Reader,
+    // port 3
+    pub fronius: fronius::Reader,
+}
+
+// A message is told by its family's header; its data stand at the front of the lent buffer.
+pub enum Answer {
+    // the piece is used up
+    Done,
+    ComLynx(comlynx::Header),
+    Eversolar(eversolar::Header),
+    Fronius(fronius::Header),
+    Damaged(Damage),
+    Refused(Refusal),
+}
+
+// What a call hands back: the readers to go on with, the answer, and how many bytes of the piece were used.
+pub struct Step {
+    pub ports: Ports,
+    pub answer: Answer,
+    pub used: usize,
+}
+
+// A family's answer, as an answer of the ports: one function for each.
+fn comlynx_answer(answer: comlynx::Answer) -> Answer
+    ensures { λ r. ⌜ r ≡ comlynxAnswer answer ⌝ }
+{
+    match answer {
+        comlynx::Answer::Done => Answer::Done,
+        comlynx::Answer::Message(h) => Answer::ComLynx(h),
+        comlynx::Answer::Damaged(what) => Answer::Damaged(what),
+        comlynx::Answer::Refused(why) => Answer::Refused(why),
+    }
+}
+
+fn eversolar_answer(answer: eversolar::Answer) -> Answer
+    ensures { λ r. ⌜ r ≡ eversolarAnswer answer ⌝ }
+{
+    match answer {
+        eversolar::Answer::Done => Answer::Done,
+        eversolar::Answer::Message(h) => Answer::Eversolar(h),
+        eversolar::Answer::Damaged(what) => Answer::Damaged(what),
+        eversolar::Answer::Refused(why) => Answer::Refused(why),
+    }
+}
+
+fn fronius_answer(answer: fronius::Answer) -> Answer
+    ensures { λ r. ⌜ r ≡ froniusAnswer answer ⌝ }
+{
+    match answer {
+        fronius::Answer::Done => Answer::Done,
+        fronius::Answer::Message(h) => Answer::Fronius(h),
+        fronius::Answer::Damaged(what) => Answer::Damaged(what),
+        fronius::Answer::Refused(why) => Answer::Refused(why),
+    }
+}
+
+impl Ports {
+    // Every reader before its first byte.
+    pub fn fresh() -> Self
+        ensures { λ r. ⌜ IsFresh r ⌝ }
+    {
+        let first = comlynx::Reader::fresh();
+        let second = eversolar::Reader::fresh();
+        let third = fronius::Reader::fresh();
+        Ports {
+            comlynx: first,
+            eversolar: second,
+            fronius: third,
+        }
+    }
+
+    // One call of that port's reader. A port that has none is refused, and nothing is used or changed. All in one function: with one for
+    // each family every call copies all three readers once more.
+    pub fn step(mut self, port: u8, piece: &[u8], lent: &mut [u8]) -> Step
+        ensures { λ r. ⌜ IsStep self port (now (piece .entry)) (now (lent .entry)) r (now (lent .exit)) ⌝ }
+    {
+        if port == COMLYNX {
+            let s = self.comlynx.step(piece, lent);
+            let next = s.reader;
+            self.comlynx = next;
+            let told = s.answer;
+            let answer = comlynx_answer(told);
+            return Step {
+                ports: self,
+                answer: answer,
+                used: s.used,
+            };
+        }
+        if port == EVERSOLAR {
+            let s = self.eversolar.step(piece, lent);
+            let next = s.reader;
+            self.eversolar = next;
+            let told = s.answer;
+            let answer = eversolar_answer(told);
+            return Step {
+                ports: self,
+                answer: answer,
+                used: s.used,
+            };
+        }
+        if port == FRONIUS {
+            let s = self.fronius.step(piece, lent);
+            let next = s.reader;
+            self.fronius = next;
+            let told = s.answer;
+            let answer = fronius_answer(told);
+            return Step {
+                ports: self,
+                answer: answer,
+                used: s.used,
+            };
+        }
+        let answer = Answer::Refused(Refusal::WrongPort);
+        Step {
+            ports: self,
+            answer: answer,
+            used: 0,
+        }
+    }
+}
