@@ -21,12 +21,12 @@ use Rattle.uplink.proofs.Accepted.{held, never, tested, port-within, be
 -- ---- what is written
 
 -- where the writer's answer is 0 it took the line, and left the packet and what stood behind it
-record Put (port : ℕ) (line lent later : List ℕ) (n : ℕ) : Type 0 where
-  taken : takes port (length line) ≡ true
-  long : n ≡ headLength + length line
-  left : later ≡ packet port line ++ drop n lent
+pub record Put (port : ℕ) (line lent later : List ℕ) (n : ℕ) : Type 0 where
+  pub taken : takes port (length line) ≡ true
+  pub long : n ≡ headLength + length line
+  pub left : later ≡ packet port line ++ drop n lent
 
-put : (port : ℕ) (line lent later : List ℕ) (w : Written) (n : ℕ) → IsWritten port line lent w later → Written.told w ≡ answer 0 (n ∷ []) → Put port line lent later n
+pub put : (port : ℕ) (line lent later : List ℕ) (w : Written) (n : ℕ) → IsWritten port line lent w later → Written.told w ≡ answer 0 (n ∷ []) → Put port line lent later n
 unfolding written
 put port line lent later w n p e =
     let tells : Answer × List ℕ → Answer = λ a. a .0 in
@@ -41,7 +41,7 @@ put port line lent later w n p e =
       left = p .1 ∙ now ∙ ap (λ (k : ℕ). packet port line ++ drop k lent) long;
     }
 
-packet-length : (port : ℕ) (line : List ℕ) → length (packet port line) ≡ headLength + length line
+pub packet-length : (port : ℕ) (line : List ℕ) → length (packet port line) ≡ headLength + length line
 packet-length port line = omega arith
 
 pub reads-back : ReadsBack

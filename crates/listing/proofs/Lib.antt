@@ -1,0 +1,5 @@
+pub mod Laying
+pub mod Room
+pub mod Draining
+pub mod Making
+pub mod One

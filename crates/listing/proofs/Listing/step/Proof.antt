@@ -1,0 +1,257 @@
+-- `Listing::step` meets its promise: each return is what its tests say.
+-- Assumes nothing.
+use native.Mathlib.Omega.{arith}
+use Prim.Native.Nat.{ℕ, _-_, _≤_}
+use mathlib.Core.Path.{_≡_, refl, sym, ap, _∙_, subst}
+use mathlib.Core.Bool.{true, false}
+use mathlib.Core.List.{List}
+use lib.ListN.{length, take, drop}
+use denote.Ref.{now}
+use borrow.Author.Tests.{not-true, not-false}
+use Rattle.answers.specs.declared.Refusal.the-variants.{NoRoom, Spoilt}
+use Rattle.uplink.specs.Packet.{headLength, IsRead}
+use Rattle.uplink.specs.Demands.{Within}
+use Rattle.uplink.specs.declared.Received.the-variants.{Packet}
+use Rattle.uplink.proofs.Demands.{fits}
+use Rattle.listing.specs.Steps.{refused, ends, inRange, roomLeast, made}
+use Rattle.listing.specs.Making.{stopOf, CanTake, packet, taking}
+use Rattle.listing.proofs.Making.{in-few, counts-few, same-made, nothing, line-long, out-of-range, no-room, no-input, too-many, one-packet, refused-packet}
+use borrow.Author.Needs.{needs}
+use Rattle.listing.proofs.Listing.step.Statement.{statement}
+use Rattle.listing.proofs.Listing.step.Tie as tie
+
+-- the arguments, where the listing was found in range
+abbrev args-of : tie.Else1 → tie.Start
+args-of c = c .before .before .before .before
+
+counted : (c : tie.Else1) → inRange (args-of c .args .self) ≡ true
+counted c = sym (in-few (args-of c .args .self)) ∙ sym (c .before .in-range .ensures) ∙ not-false _ (c .if1 .left)
+
+-- back to that place, from where a packet may be taken
+abbrev from-four : tie.Else4 → tie.Else1
+from-four c = c .before .before .before .before
+
+roomy : (c : tie.Else4) → roomLeast ≤ length (now (args-of (from-four c) .args .out))
+roomy c = omega (arith, c .before .before .before .if2 .left)
+
+-- ---- a packet that was received
+
+abbrev at-packet : tie.After-received → tie.Else4
+at-packet c = c .before .before .before
+
+abbrev port-of : tie.After-received → ℕ
+port-of c = c .received .given .0 .0
+
+abbrev count-of : tie.After-received → ℕ
+count-of c = c .received .given .0 .1 .0
+
+abbrev used-of : tie.After-received → ℕ
+used-of c = c .received .given .0 .1 .1 .0
+
+abbrev input-of : tie.After-received → List ℕ
+input-of c = now (args-of (from-four (at-packet c)) .args .input)
+
+abbrev line-of : tie.After-received → List ℕ
+line-of c = take (used-of c - headLength) (drop headLength (input-of c))
+
+received : (c : tie.After-received) → IsRead (input-of c) (Packet (port-of c) (count-of c) (used-of c))
+received c = subst (IsRead (input-of c)) (c .received .given .1) (c .before .before .read .ensures)
+
+within : (c : tie.After-received) → Within (input-of c) (port-of c) (count-of c) (used-of c)
+within c = fits (input-of c) (Packet (port-of c) (count-of c) (used-of c)) (port-of c) (count-of c) (used-of c) (received c) refl
+
+can-take : (c : tie.After-received) → (let a = args-of (from-four (at-packet c)) .args in CanTake (a .self) (length (line-of c)) (length (now (a .out))))
+can-take c =
+    let four : tie.Else4 = at-packet c in
+    let e = from-four four in
+    let l = args-of e .args .self in
+    let w = within c in
+    let long = line-long (input-of c) (port-of c) (count-of c) (used-of c) w in
+    let counts = counts-few (l .packets) (l .messages) (l .damages) (in-few l ∙ counted e) in
+    record {
+      counts = counted e;
+      packets = omega (arith, counts .0, four .if4 .left);
+      some = omega (arith, long, w .some);
+      most = omega (arith, long, w .most);
+      lent = roomy four;
+    }
+
+at-port : (c : tie.After-received) (port : ℕ) → port-of c ≡ port
+    → (let a = args-of (from-four (at-packet c)) .args in taking (a .self) (packet port (line-of c)) ≡ made (a .self) (now (a .input)) (a .ended) (length (now (a .out))))
+at-port c port is =
+    let four : tie.Else4 = at-packet c in
+    let e = from-four four in
+    let a = args-of e .args in
+    ap (λ (n : ℕ). taking (a .self) (packet n (line-of c))) (sym is)
+    ∙ one-packet (a .self) (now (a .input)) (a .ended) (length (now (a .out))) (counted e) (roomy four) (four .before .before .if3 .left) (four .if4 .left) (port-of c) (count-of c)
+    (used-of c) (received c)
+
+-- ---- the needs, in the order of the code
+
+in-range-requires : tie.Need-in-range-requires
+in-range-requires c κs = search needs
+
+refused-requires : tie.Need-refused-requires
+refused-requires c κs = search needs
+
+returns : tie.Need-returns
+returns c =
+    let a = c .before .before .before .before .before .args in
+    let out : inRange (a .self) ≡ false = sym (in-few (a .self)) ∙ sym (c .before .before .in-range .ensures) ∙ not-true _ (c .before .if1 .taken) in
+    same-made (a .self) (now (a .out)) (now (a .out)) (c .refused .result) (out-of-range (a .self) (now (a .input)) (a .ended) (length (now (a .out))) out)
+    (nothing (a .self) (refused Spoilt (a .self)) (now (a .out)) (c .refused .result) refl refl (c .refused .ensures))
+
+refused-requires-2 : tie.Need-refused-requires-2
+refused-requires-2 c κs = search needs
+
+returns-2 : tie.Need-returns-2
+returns-2 c =
+    let e : tie.Else1 = c .before .before in
+    let a = args-of e .args in
+    same-made (a .self) (now (a .out)) (now (a .out)) (c .refused2 .result) (no-room (a .self) (now (a .input)) (a .ended) (length (now (a .out))) (counted e) (omega arith))
+    (nothing (a .self) (refused NoRoom (a .self)) (now (a .out)) (c .refused2 .result) refl refl (c .refused2 .ensures))
+
+at-end-requires : tie.Need-at-end-requires
+at-end-requires c κs = search needs
+
+same-length : tie.Need-same-length
+same-length c = search needs
+
+returns-3 : tie.Need-returns-3
+returns-3 c =
+    let e : tie.Else1 = c .before .before .before .before .before .before in
+    let a = args-of e .args in
+    let r = c .before .before .at-end in
+    same-made (a .self) (now (a .out)) (r .last .1 .1 .0) (r .result)
+    (no-input (a .self) (now (a .input)) (a .ended) (length (now (a .out))) (counted e) (omega arith) (c .before .before .before .before .if3 .taken)) (r .ensures)
+
+number-requires : tie.Need-number-requires
+number-requires c κs = search needs
+
+over-requires : tie.Need-over-requires
+over-requires c κs = search needs
+
+same-length-2 : tie.Need-same-length-2
+same-length-2 c = search needs
+
+returns-4 : tie.Need-returns-4
+returns-4 c =
+    let e : tie.Else1 = c .before .before .before .before .before .before .before .before .before in
+    let a = args-of e .args in
+    let r = c .before .before .over in
+    same-made (a .self) (now (a .out)) (r .last .1 .1 .0) (r .result)
+    (ap (λ (n : ℕ). ends (a .self) (stopOf n)) (c .before .before .before .before .number .ensures)
+    ∙ too-many (a .self) (now (a .input)) (a .ended) (length (now (a .out))) (counted e) (omega (arith, c .before .before .before .before .before .before .before .before .if2 .left)) (c .before .before .before .before .before .before .before .if3 .left) (c .before .before .before .before .before .if4 .taken)) (r .ensures)
+
+read-requires : tie.Need-read-requires
+read-requires c κs = search needs
+
+enum-known-received : tie.Need-enum-known-received
+enum-known-received c = search needs
+
+sub-line : tie.Need-sub-line
+sub-line c = omega (arith, within (c .before) .uses)
+
+part-line-start : tie.Need-part-line-start
+part-line-start c = omega (arith, within (c .before) .uses)
+
+part-line-end : tie.Need-part-line-end
+part-line-end c = omega (arith, within (c .before) .there)
+
+on-comlynx-requires : tie.Need-on-comlynx-requires
+on-comlynx-requires c κs = can-take (c .before .before .before .before .before)
+
+same-length-3 : tie.Need-same-length-3
+same-length-3 c = search needs
+
+returns-5 : tie.Need-returns-5
+returns-5 c =
+    let p : tie.After-received = c .before .before .before .before .before .before .before .before in
+    let a = args-of (from-four (at-packet p)) .args in
+    let r = c .before .before .on-comlynx in
+    let one : port-of p ≡ 1 = omega (arith, c .before .before .before .before .if5 .taken) in
+    same-made (a .self) (now (a .out)) (r .last .1 .1 .1 .1 .1 .0) (r .result) (at-port p 1 one) (r .ensures)
+
+on-eversolar-requires : tie.Need-on-eversolar-requires
+on-eversolar-requires c κs = can-take (c .before .before .before .before .before .before)
+
+same-length-4 : tie.Need-same-length-4
+same-length-4 c = search needs
+
+returns-6 : tie.Need-returns-6
+returns-6 c =
+    let p : tie.After-received = c .before .before .before .before .before .before .before .before .before in
+    let a = args-of (from-four (at-packet p)) .args in
+    let r = c .before .before .on-eversolar in
+    let two : port-of p ≡ 2 = omega (arith, c .before .before .before .before .if6 .taken) in
+    same-made (a .self) (now (a .out)) (r .last .1 .1 .1 .1 .1 .0) (r .result) (at-port p 2 two) (r .ensures)
+
+on-fronius-requires : tie.Need-on-fronius-requires
+on-fronius-requires c κs = can-take (c .before .before .before .before .before .before)
+
+enum-known-received-2 : tie.Need-enum-known-received-2
+enum-known-received-2 c = search needs
+
+no-packet-requires : tie.Need-no-packet-requires
+no-packet-requires c κs = search needs
+
+same-length-5 : tie.Need-same-length-5
+same-length-5 c = search needs
+
+returns-7 : tie.Need-returns-7
+returns-7 c =
+    let p : tie.After-received = c .before .before .before .before .before .before .before .before .before in
+    let a = args-of (from-four (at-packet p)) .args in
+    let r = c .before .before .on-fronius in
+    let w = within p in
+    let three : port-of p ≡ 3 = omega (arith, w .first, w .last, c .before .before .before .before .before .if5 .left, c .before .before .before .before .if6 .left) in
+    same-made (a .self) (now (a .out)) (r .last .1 .1 .1 .1 .1 .0) (r .result) (at-port p 3 three) (r .ensures)
+
+same-length-6 : tie.Need-same-length-6
+same-length-6 c = search needs
+
+returns-8 : tie.Need-returns-8
+returns-8 c =
+    let p : tie.After-received2 = c .before .before .before .before .before in
+    let four : tie.Else4 = p .before .before .before in
+    let e = from-four four in
+    let a = args-of e .args in
+    let r = c .before .before .no-packet in
+    same-made (a .self) (now (a .out)) (r .last .1 .1 .1 .0) (r .result)
+    (refused-packet (a .self) (now (a .input)) (a .ended) (length (now (a .out))) (counted e) (roomy four) (four .before .before .if3 .left) (four .if4 .left) (p .received2 .given .0 .0)
+    (subst (IsRead (now (a .input))) (p .received2 .given .1) (p .before .before .read .ensures))) (r .ensures)
+
+pub step-spec : {M : Type 1} → statement M
+step-spec =
+    tie.close
+    (tie.spec
+    in-range-requires
+    refused-requires
+    returns
+    refused-requires-2
+    returns-2
+    at-end-requires
+    same-length
+    returns-3
+    number-requires
+    over-requires
+    same-length-2
+    returns-4
+    read-requires
+    enum-known-received
+    sub-line
+    part-line-start
+    part-line-end
+    on-comlynx-requires
+    same-length-3
+    returns-5
+    on-eversolar-requires
+    same-length-4
+    returns-6
+    on-fronius-requires
+    enum-known-received-2
+    no-packet-requires
+    same-length-5
+    returns-7
+    same-length-6
+    returns-8)

@@ -1,0 +1,351 @@
+-- `drain_comlynx`: the loop keeps what `Kept` says, and its two ends are the promise's.
+-- Assumes nothing.
+use Prim.Native.Nat.{ℕ, _+_, _-_, _*_, _≤_, _<_}
+use mathlib.Core.Path.{_≡_, refl, sym, ap, _∙_, subst}
+use mathlib.Core.Logic.{⊎-elim}
+use mathlib.Core.Bool.{false}
+use mathlib.Core.Option.{Option}
+use mathlib.Core.List.{List, _++_}
+use lib.ListN.{length, take, drop, length-drop, length-replicate}
+use lib.Seq.{sets, take-append-seam}
+use native.Mathlib.Nat.{add-zero}
+use native.Mathlib.Omega.{arith}
+use borrow.Author.Needs.{needs}
+use Rattle.stream.specs.Event.{Event}
+use Rattle.stream.specs.Call.{lentLeast, retold}
+use Rattle.stream.proofs.Host.{Fine, step-used, step-fits}
+use Rattle.comlynx.specs.Wire.{Message}
+use Rattle.comlynx.specs.Machine.{next}
+use Rattle.comlynx.specs.Reader.{inRange, header, told, shown, join, IsStep}
+use Rattle.comlynx.specs.declared.reader.Reader.{Reader}
+use Rattle.comlynx.specs.declared.reader.Header.{Header}
+use Rattle.comlynx.specs.declared.reader.Step.{Step}
+use Rattle.comlynx.specs.declared.reader.Answer.{Answer}
+use Rattle.comlynx.specs.declared.reader.Answer.the-variants.{Done, Message as Read, Damaged, Refused}
+use Rattle.uplink.specs.Packet.{lineMax}
+use Rattle.listing.specs.Entries.{showComlynx}
+use Rattle.listing.specs.Steps.{roomLeast}
+use Rattle.listing.proofs.Room.{lineFor, perByte, heldMost, Weighs, comlynxWeight, comlynx-weighs, comlynx-heavy}
+use Rattle.listing.proofs.Draining.{rest, rest-length, into, messageFor, damageFor, given, Went, went, spoils, Kept, begins, kept-length, line-used, line-uses, line-room, turns, ends, ends-spoilt}
+use Rattle.listing.proofs.drain.drain_comlynx.Statement.{statement}
+use Rattle.listing.proofs.drain.drain_comlynx.Tie as tie
+
+-- header and data make up the message
+joins : (m : Message) (rest : List ℕ) → join (header m) (m .bytes ++ rest) ≡ m
+joins m rest = ap {B = Message} (λ (l : List ℕ). record { source = m .source; destination = m .destination; kind = m .kind; bytes = l }) (take-append-seam (m .bytes) rest)
+
+abbrev Keeps : (port : ℕ) → Reader → (line out₀ : List ℕ) → Reader → (at wrote messages damages : ℕ) → (out : List ℕ) → Type 0
+Keeps port = Kept next inRange header (λ m. m .bytes) shown join joins showComlynx port comlynxWeight
+
+abbrev Inv-loop : tie.InvT-loop
+Inv-loop port line out₀ lent₀ s₀ spoilt₀ wrote₀ messages₀ damages₀ at₀ out lent s spoilt wrote messages damages at =
+    Keeps port (s₀ .reader) line out₀ (s .reader) at wrote messages damages out × (length lent ≡ lentLeast) × (spoilt ≡ false)
+
+abbrev μ-loop : tie.MeasureT-loop
+μ-loop port line out₀ lent₀ s₀ spoilt₀ wrote₀ messages₀ damages₀ at₀ out lent s spoilt wrote messages damages at = length line - at
+
+-- ---- a turn, and what is known of its call
+
+abbrev portOf : tie.At-loop Inv-loop μ-loop → ℕ
+portOf l = l .before .before .before .args .port
+
+abbrev entryLine : tie.At-loop Inv-loop μ-loop → List ℕ
+entryLine l = l .before .before .before .args .line .now
+
+abbrev leftOf : tie.At-loop Inv-loop μ-loop → List ℕ
+leftOf l = drop (l .loop .at) (entryLine l)
+
+abbrev outOf : tie.At-loop Inv-loop μ-loop → List ℕ
+outOf l = l .before .before .before .args .out .now
+
+weighs : (l : tie.At-loop Inv-loop μ-loop) → Weighs next showComlynx (portOf l) comlynxWeight
+weighs l = comlynx-weighs (portOf l) (omega (arith, l .before .before .before .pre .1))
+
+short : (l : tie.At-loop Inv-loop μ-loop) → length (entryLine l) ≤ lineMax
+short l = l .before .before .before .pre .3
+
+same : (l : tie.At-loop Inv-loop μ-loop) → length (l .loop .out) ≡ length (outOf l)
+same l = kept-length next inRange header (λ m. m .bytes) shown join joins showComlynx (portOf l) comlynxWeight (weighs l) (l .loop .inv .0)
+
+wide : (l : tie.At-loop Inv-loop μ-loop) → roomLeast ≤ length (l .loop .out)
+wide l = omega (arith, l .before .before .before .pre .4, same l)
+
+abbrev turn : tie.After-step Inv-loop μ-loop → tie.At-loop Inv-loop μ-loop
+turn c = c .before .before .before .before
+
+abbrev later : tie.After-step Inv-loop μ-loop → List ℕ
+later c = c .step .last .1 .1 .0
+
+stepped : (c : tie.After-step Inv-loop μ-loop) → IsStep (turn c .loop .s .reader) (leftOf (turn c)) (turn c .loop .lent) (c .step .result) (later c)
+stepped c =
+    subst (λ (p : List ℕ). IsStep (turn c .loop .s .reader) p (turn c .loop .lent) (c .step .result) (later c)) (rest (entryLine (turn c)) (turn c .loop .at)) (c .step .ensures)
+
+lent-least : (c : tie.After-step Inv-loop μ-loop) → lentLeast ≤ length (turn c .loop .lent)
+lent-least c = omega (arith, turn c .loop .inv .1)
+
+lent-later : (c : tie.After-step Inv-loop μ-loop) → length (later c) ≡ length (turn c .loop .lent)
+lent-later c = c .step .kept .1 .1 .0
+
+used-at-most : (c : tie.After-step Inv-loop μ-loop) → c .step .result .used ≤ length (leftOf (turn c))
+used-at-most c = step-used next inRange header (λ m. m .bytes) shown (turn c .loop .s .reader) (leftOf (turn c)) (turn c .loop .lent) (later c) (c .step .result) (stepped c)
+
+fits : (c : tie.After-step Inv-loop μ-loop) (h : Header) → c .step .result .answer ≡ Read h → h .len ≤ lentLeast
+fits c h e =
+    let u = step-fits next inRange header (λ m. m .bytes) shown (λ (v : Header). v .len) (λ m. refl) (turn c .loop .s .reader) (leftOf (turn c)) (turn c .loop .lent) (later c) (c .step .result) h (stepped c) (lent-later c) (ap told e) in
+    omega (arith, turn c .loop .inv .1)
+
+-- ---- a call that was not refused
+
+module _ (c : tie.After-step Inv-loop μ-loop) where
+  abbrev tells : Answer → Option (Event Message)
+  tells a = given (retold (λ h. join h (later c)) (told a))
+
+  abbrev lineTold : Answer → List ℕ
+  lineTold a = lineFor showComlynx (portOf (turn c)) (tells a)
+
+  module _ (a : Answer) (e : c .step .result .answer ≡ a) (fine : Fine (told a)) where
+    goes : Went next inRange header (λ m. m .bytes) shown join joins (turn c .loop .s .reader) (leftOf (turn c)) (c .step .result) (tells a)
+    goes =
+        went next inRange header (λ m. m .bytes) shown join joins (turn c .loop .s .reader) (leftOf (turn c)) (turn c .loop .lent) (later c) (c .step .result)
+        (stepped c) (lent-least c) (tells a) (subst (λ (v : Answer). Fine (told v)) (sym e) fine) (ap tells e)
+
+    uses : turn c .loop .at + c .step .result .used ≤ length (entryLine (turn c))
+    uses = line-used next inRange header (λ m. m .bytes) shown join joins showComlynx (portOf (turn c)) comlynxWeight (weighs (turn c)) (turn c .loop .inv .0) goes
+
+    moves : 0 < c .step .result .used
+    moves =
+        line-uses next inRange header (λ m. m .bytes) shown join joins showComlynx (portOf (turn c)) comlynxWeight (weighs (turn c)) (turn c .loop .inv .0) goes
+        (c .before .before .before .loop-test .taken)
+
+    -- there is room for its line
+    room : turn c .loop .wrote + length (lineTold a) ≤ heldMost + perByte * lineMax
+    room =
+        omega
+        (arith, uses, short (turn c), line-room next inRange header (λ m. m .bytes) shown join joins showComlynx (portOf (turn c)) comlynxWeight (weighs (turn c)) (turn c .loop .inv .0) goes)
+
+    part-room : length (lineTold a) ≤ length (take (length (turn c .loop .out) - turn c .loop .wrote) (drop (turn c .loop .wrote) (turn c .loop .out)))
+    part-room = omega (arith, room, wide (turn c), rest-length (turn c .loop .out) (turn c .loop .wrote))
+
+    keeps : (wrote messages damages : ℕ) (out : List ℕ) → wrote ≡ turn c .loop .wrote + length (lineTold a)
+        → messages ≡ turn c .loop .messages + messageFor showComlynx (portOf (turn c)) (tells a)
+        → damages ≡ turn c .loop .damages + damageFor showComlynx (portOf (turn c)) (tells a)
+        → out ≡ sets (turn c .loop .out) (turn c .loop .wrote) (lineTold a)
+        → Keeps (portOf (turn c)) (turn c .before .before .before .args .reader) (entryLine (turn c)) (outOf (turn c)) (c .step .result .reader)
+        (turn c .loop .at + c .step .result .used) wrote messages damages out
+        × (length (later c) ≡ lentLeast) × (turn c .loop .spoilt ≡ false)
+    keeps wrote messages damages out ew em ed eo = (
+      turns next inRange header (λ m. m .bytes) shown join joins showComlynx (portOf (turn c)) comlynxWeight (weighs (turn c)) (turn c .loop .inv .0) goes (stepped c .2)
+          (c .before .before .before .loop-test .taken) wrote messages damages out ew em ed eo,
+      lent-later c ∙ turn c .loop .inv .1,
+      turn c .loop .inv .2,
+    )
+
+-- ---- the places
+
+abbrev back : tie.After-struct-known Inv-loop μ-loop → tie.After-step Inv-loop μ-loop
+back c = c .before .before
+
+loop-holds : tie.Need-loop-holds Inv-loop μ-loop
+loop-holds c = (
+  begins next inRange header (λ m. m .bytes) shown join joins showComlynx (c .before .before .args .port) comlynxWeight comlynx-heavy (c .before .before .args .reader) (c .before .before .args .line .now) (c .before .before .args .out .now),
+  length-replicate {A = ℕ} lentLeast 0,
+  refl,
+)
+
+sub-step : tie.Need-sub-step Inv-loop μ-loop
+sub-step c = search needs
+
+part-step-start : tie.Need-part-step-start Inv-loop μ-loop
+part-step-start c = search needs
+
+part-step-end : tie.Need-part-step-end Inv-loop μ-loop
+part-step-end c = search needs
+
+slice-aggregate-step : tie.Need-slice-aggregate-step Inv-loop μ-loop
+slice-aggregate-step c = search needs
+
+step-requires : tie.Need-step-requires Inv-loop μ-loop
+step-requires c κs = search needs
+
+add-at : tie.Need-add-at Inv-loop μ-loop
+add-at c =
+    let k = back c in
+    let l = turn k in
+    omega (arith, used-at-most k, length-drop (l .loop .at) (entryLine l), short l, k .before .before .before .loop-test .taken)
+
+enum-told : tie.Need-enum-told Inv-loop μ-loop
+enum-told c = search needs
+
+loop-less : tie.Need-loop-less Inv-loop μ-loop
+loop-less c =
+    let k = back (c .before .before) in
+    omega (arith, uses k Done (c .enum-told .given .1) tt, moves k Done (c .enum-told .given .1) tt)
+
+loop-again : tie.Need-loop-again Inv-loop μ-loop
+loop-again c =
+    let k = back (c .before .before) in
+    let l = turn k .loop in
+    keeps k Done (c .enum-told .given .1) tt _ _ _ _ (sym (add-zero (l .wrote))) (sym (add-zero (l .messages))) (sym (add-zero (l .damages))) refl
+
+enum-known-answer : tie.Need-enum-known-answer Inv-loop μ-loop
+enum-known-answer c = search needs
+
+slice-aggregate-comlynx-line : tie.Need-slice-aggregate-comlynx-line Inv-loop μ-loop
+slice-aggregate-comlynx-line c = search needs
+
+sub-comlynx-line : tie.Need-sub-comlynx-line Inv-loop μ-loop
+sub-comlynx-line c =
+    let k = back (c .before .before .before .before) in
+    omega (arith, room k (Read (c .before .before .answer .given .0 .0)) (c .before .before .answer .given .1) tt, wide (turn k))
+
+part-comlynx-line-start : tie.Need-part-comlynx-line-start Inv-loop μ-loop
+part-comlynx-line-start c =
+    let k = back (c .before .before .before .before) in
+    omega (arith, room k (Read (c .before .before .answer .given .0 .0)) (c .before .before .answer .given .1) tt, wide (turn k))
+
+part-comlynx-line-end : tie.Need-part-comlynx-line-end Inv-loop μ-loop
+part-comlynx-line-end c = search needs
+
+comlynx-line-requires : tie.Need-comlynx-line-requires Inv-loop μ-loop
+comlynx-line-requires c κs =
+    let k = back (c .before .before .before .before .before) in
+    let g = c .before .before .before .answer .given in
+    let f = fits k (g .0 .0) (g .1) in
+    (f, omega (arith, f, lent-later k, turn k .loop .inv .1), part-room k (Read (g .0 .0)) (g .1) tt)
+
+add-wrote : tie.Need-add-wrote Inv-loop μ-loop
+add-wrote c =
+    let k = back (c .before .before .before .before .before .before .before .before) in
+    let g = c .before .before .before .before .before .before .answer .given in
+    omega (arith, room k (Read (g .0 .0)) (g .1) tt, c .before .before .comlynx-line .ensures .0)
+
+add-messages : tie.Need-add-messages Inv-loop μ-loop
+add-messages c =
+    let k = back (c .before .before .before .before .before .before .before .before) in
+    omega (arith, turn k .loop .inv .0 .few-messages, turn k .loop .inv .0 .within, short (turn k))
+
+loop-less-2 : tie.Need-loop-less-2 Inv-loop μ-loop
+loop-less-2 c =
+    let k = back (c .before .before .before .before .before .before .before .before) in
+    let g = c .before .before .before .before .before .before .answer .given in
+    omega (arith, uses k (Read (g .0 .0)) (g .1) tt, moves k (Read (g .0 .0)) (g .1) tt)
+
+loop-again-2 : tie.Need-loop-again-2 Inv-loop μ-loop
+loop-again-2 c =
+    let k = back (c .before .before .before .before .before .before .before .before) in
+    let g = c .before .before .before .before .before .before .answer .given in
+    let l = turn k .loop in
+    let a = Read (g .0 .0) in
+    let put = c .before .before .comlynx-line in
+    keeps k a (g .1) tt _ _ _ _ (ap (λ (n : ℕ). l .wrote + n) (put .ensures .0)) refl (sym (add-zero (l .damages)))
+    (into (l .out) (put .last .1 .1 .1 .0) (lineTold k a) (l .wrote) (omega (arith, room k a (g .1) tt, wide (turn k))) (put .ensures .1))
+
+enum-known-answer-2 : tie.Need-enum-known-answer-2 Inv-loop μ-loop
+enum-known-answer-2 c = search needs
+
+sub-damage-line : tie.Need-sub-damage-line Inv-loop μ-loop
+sub-damage-line c =
+    let k = back (c .before .before .before) in
+    omega (arith, room k (Damaged (c .before .answer2 .given .0 .0)) (c .before .answer2 .given .1) tt, wide (turn k))
+
+part-damage-line-start : tie.Need-part-damage-line-start Inv-loop μ-loop
+part-damage-line-start c =
+    let k = back (c .before .before .before) in
+    omega (arith, room k (Damaged (c .before .answer2 .given .0 .0)) (c .before .answer2 .given .1) tt, wide (turn k))
+
+part-damage-line-end : tie.Need-part-damage-line-end Inv-loop μ-loop
+part-damage-line-end c = search needs
+
+damage-line-requires : tie.Need-damage-line-requires Inv-loop μ-loop
+damage-line-requires c κs =
+    let k = back (c .before .before .before .before) in
+    let g = c .before .before .answer2 .given in
+    part-room k (Damaged (g .0 .0)) (g .1) tt
+
+add-wrote-2 : tie.Need-add-wrote-2 Inv-loop μ-loop
+add-wrote-2 c =
+    let k = back (c .before .before .before .before .before .before .before) in
+    let g = c .before .before .before .before .before .answer2 .given in
+    omega (arith, room k (Damaged (g .0 .0)) (g .1) tt, c .before .before .damage-line .ensures .0)
+
+add-damages : tie.Need-add-damages Inv-loop μ-loop
+add-damages c =
+    let k = back (c .before .before .before .before .before .before .before) in
+    omega (arith, turn k .loop .inv .0 .few-damages, turn k .loop .inv .0 .within, short (turn k))
+
+loop-less-3 : tie.Need-loop-less-3 Inv-loop μ-loop
+loop-less-3 c =
+    let k = back (c .before .before .before .before .before .before .before) in
+    let g = c .before .before .before .before .before .answer2 .given in
+    omega (arith, uses k (Damaged (g .0 .0)) (g .1) tt, moves k (Damaged (g .0 .0)) (g .1) tt)
+
+loop-again-3 : tie.Need-loop-again-3 Inv-loop μ-loop
+loop-again-3 c =
+    let k = back (c .before .before .before .before .before .before .before) in
+    let g = c .before .before .before .before .before .answer2 .given in
+    let l = turn k .loop in
+    let a = Damaged (g .0 .0) in
+    let put = c .before .before .damage-line in
+    keeps k a (g .1) tt _ _ _ _ (ap (λ (n : ℕ). l .wrote + n) (put .ensures .0)) (sym (add-zero (l .messages))) refl
+    (into (l .out) (put .last .1 .1 .0) (lineTold k a) (l .wrote) (omega (arith, room k a (g .1) tt, wide (turn k))) (put .ensures .1))
+
+enum-told-2 : tie.Need-enum-told-2 Inv-loop μ-loop
+enum-told-2 c = search needs
+
+same-length : tie.Need-same-length Inv-loop μ-loop
+same-length c = same (c .before .before)
+
+returns : tie.Need-returns Inv-loop μ-loop
+returns c =
+    let l = c .before .before in
+    let s = l .before .before .before in
+    let x = c .before .loop-test in
+    ⊎-elim
+    (λ a.
+    ends next inRange header (λ m. m .bytes) shown join joins showComlynx (portOf l) comlynxWeight (weighs l) (l .loop .inv .0) (x .s .reader) (x .spoilt)
+    (ap (λ (v : Step). v .reader) (a .1)) (a .2 ∙ l .loop .inv .2) (a .0 .left) (s .pre .2) (s .pre .3) (s .pre .4))
+    (λ b.
+    let k : tie.After-step Inv-loop μ-loop = record { before = record { before = record { before = record { before = l; loop-test = b .0 }; step-arg = b .1 }; lent = b .2 }; step = b .3 } in
+    let bad = spoils next inRange header (λ m. m .bytes) shown join joins (l .loop .s .reader) (leftOf l) (l .loop .lent) (later k) (k .step .result) (stepped k) (lent-least k) _ (ap told (b .7 .given .1)) in
+    ends-spoilt next inRange header (λ m. m .bytes) shown join joins showComlynx (portOf l) comlynxWeight (weighs l) (l .loop .inv .0) (x .s .reader) (x .spoilt)
+    (ap (λ (v : Step). v .reader) (b .8) ∙ bad .1) (b .9) (bad .0) (s .pre .3))
+    (x .came)
+
+pub drain-comlynx-spec : {M : Type 1} → statement M
+drain-comlynx-spec =
+    tie.close
+    (tie.spec
+    Inv-loop
+    μ-loop
+    loop-holds
+    sub-step
+    part-step-start
+    part-step-end
+    slice-aggregate-step
+    step-requires
+    add-at
+    enum-told
+    loop-less
+    loop-again
+    enum-known-answer
+    slice-aggregate-comlynx-line
+    sub-comlynx-line
+    part-comlynx-line-start
+    part-comlynx-line-end
+    comlynx-line-requires
+    add-wrote
+    add-messages
+    loop-less-2
+    loop-again-2
+    enum-known-answer-2
+    sub-damage-line
+    part-damage-line-start
+    part-damage-line-end
+    damage-line-requires
+    add-wrote-2
+    add-damages
+    loop-less-3
+    loop-again-3
+    enum-told-2
+    same-length
+    returns)

@@ -1,0 +1,58 @@
+-- `fronius_line`: the line of its message is written where there is room.
+-- Assumes nothing.
+use native.Mathlib.Omega.{arith}
+use borrow.Author.Needs.{needs}
+use lib.ListN.{length-take}
+use Rattle.fronius.specs.Reader.{join}
+use Rattle.lines.specs.Lines.{Shown, tooLong, messageLine}
+use Rattle.lines.proofs.Laws.{not-too-long}
+use Rattle.listing.specs.Entries.{showFronius}
+use Rattle.listing.proofs.Draining.{put-line}
+use Rattle.listing.proofs.shown.fronius_line.Statement.{statement}
+use Rattle.listing.proofs.shown.fronius_line.Tie as tie
+
+abbrev given : tie.Start → Shown
+given c = showFronius (join (c .args .h) (c .args .content .now))
+
+slice-aggregate-message : tie.Need-slice-aggregate-message
+slice-aggregate-message c = search needs
+
+slice-aggregate-message-2 : tie.Need-slice-aggregate-message-2
+slice-aggregate-message-2 c = search needs
+
+slice-aggregate-message-3 : tie.Need-slice-aggregate-message-3
+slice-aggregate-message-3 c = search needs
+
+slice-aggregate-message-4 : tie.Need-slice-aggregate-message-4
+slice-aggregate-message-4 c =
+    let s = c .before .before .before .before .before .before in
+    simp length-take (omega (arith, s .pre .1))
+
+message-requires : tie.Need-message-requires
+message-requires c κs = search needs
+
+length-of-requires : tie.Need-length-of-requires
+length-of-requires c κs = search needs
+
+same-length : tie.Need-same-length
+same-length c = search needs
+
+returns : tie.Need-returns
+returns c =
+    let m = c .before .before .before in
+    let s = m .before .before .before .before .before .before .before .before in
+    let short = not-too-long (given s) (omega arith) (omega arith) (omega arith) (simp length-take (omega (arith, s .pre .0))) in
+    put-line (tooLong (given s)) (messageLine (s .args .port) (given s)) (s .args .out .now) _ (m .message .result) _ (m .message .ensures) short (s .pre .2) (c .length-of .ensures)
+
+pub fronius-line-spec : {M : Type 1} → statement M
+fronius-line-spec =
+    tie.close
+    (tie.spec
+    slice-aggregate-message
+    slice-aggregate-message-2
+    slice-aggregate-message-3
+    slice-aggregate-message-4
+    message-requires
+    length-of-requires
+    same-length
+    returns)

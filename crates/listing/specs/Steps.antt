@@ -1,0 +1,162 @@
+-- A listing made packet by packet: what `Listing::step` promises, for every listing, forged ones too, every input and every lent buffer.
+use Prim.Native.Nat.{ℕ, _+_, _*_}
+use mathlib.Core.Path.{_≡_}
+use mathlib.Core.Bool.{Bool, true, false, cond, _&&_, not}
+use mathlib.Core.Option.{Option, none, some}
+use mathlib.Core.List.{List, [], _∷_, _++_, map}
+use lib.ListN.{length, take, drop}
+use lib.Dec.{eqb, ltb, leb}
+use Rattle.answers.specs.Answer.{number}
+use Rattle.answers.specs.Refusal as Refusal
+use Rattle.answers.specs.declared.Refusal.{Refusal}
+use Rattle.answers.specs.declared.Refusal.the-variants.{NoRoom, BytesMissing, Spoilt, TooManyPackets}
+use Rattle.stream.specs.Event.{Event}
+use Rattle.stream.specs.Pieces.{calls}
+use Rattle.comlynx.specs.Machine as Comlynx
+use Rattle.comlynx.specs.Reader as ComlynxReader
+use Rattle.eversolar.specs.Machine as Eversolar
+use Rattle.eversolar.specs.Reader as EversolarReader
+use Rattle.fronius.specs.Machine as Fronius
+use Rattle.fronius.specs.Reader as FroniusReader
+use Rattle.uplink.specs.Packet.{headLength, lineMax, portIn, countIn, packetAt}
+use Rattle.ports.specs.Ports.{Line, comlynxLine, eversolarLine, froniusLine, noLine, lineOf}
+use Rattle.ports.specs.declared.Ports.{Ports}
+use Rattle.lines.specs.Lines.{Shown, stopLine, endLine}
+use Rattle.listing.specs.Entries.{showComlynx, showEversolar, showFronius, showEvent, entriesOn, linesOf, messagesIn, damagesIn, lastLines}
+use Rattle.listing.specs.declared.Listing.{Listing}
+use Rattle.listing.specs.declared.Listed.{Listed}
+use Rattle.listing.specs.declared.Heard.{Heard}
+use Rattle.listing.specs.declared.Heard.the-variants.{More, Packet as Took, End, Refused}
+
+-- what `Listing::fresh` promises: fresh readers, and nothing counted
+abbrev pub freshPorts : Ports
+freshPorts = record { comlynx = Comlynx.fresh; eversolar = Eversolar.fresh; fronius = Fronius.fresh }
+
+abbrev pub freshListing : Listing
+freshListing = record { ports = freshPorts; packets = 0; messages = 0; damages = 0 }
+
+abbrev pub IsFresh : Listing → Type 0
+IsFresh l = l ≡ freshListing
+
+-- ---- a packet
+
+pub record Packet : Type 0 where
+  pub port : ℕ
+  pub line : List ℕ
+
+-- the packet at the front of s
+abbrev pub packetIn : List ℕ → Packet
+packetIn s = record { port = portIn s; line = take (countIn s) (drop headLength s) }
+
+-- how many are taken
+abbrev pub packetsMax : ℕ
+packetsMax = 65536
+
+-- ---- the line bytes of a packet go to the reader of its port, called on until they are used up
+
+pub record Fed : Type 0 where
+  pub ports : Ports
+  pub events : List (Event Shown)
+
+abbrev pub fedComlynx : Ports → List ℕ → Fed
+fedComlynx ps line =
+    let r = calls Comlynx.next (length line) (ps .comlynx) line in
+    record { ports = record { comlynx = r .state; eversolar = ps .eversolar; fronius = ps .fronius }; events = map (showEvent showComlynx) (r .events) }
+
+abbrev pub fedEversolar : Ports → List ℕ → Fed
+fedEversolar ps line =
+    let r = calls Eversolar.next (length line) (ps .eversolar) line in
+    record { ports = record { comlynx = ps .comlynx; eversolar = r .state; fronius = ps .fronius }; events = map (showEvent showEversolar) (r .events) }
+
+abbrev pub fedFronius : Ports → List ℕ → Fed
+fedFronius ps line =
+    let r = calls Fronius.next (length line) (ps .fronius) line in
+    record { ports = record { comlynx = ps .comlynx; eversolar = ps .eversolar; fronius = r .state }; events = map (showEvent showFronius) (r .events) }
+
+abbrev pub fedOn : Line → Ports → List ℕ → Fed
+fedOn comlynxLine = fedComlynx
+fedOn eversolarLine = fedEversolar
+fedOn froniusLine = fedFronius
+fedOn noLine = λ ps line. record { ports = ps; events = [] }
+
+abbrev pub fed : Packet → Ports → Fed
+fed p ps = fedOn (lineOf (p .port)) ps (p .line)
+
+-- the reader of the port is in its range
+abbrev pub readableOn : Line → Ports → Bool
+readableOn comlynxLine ps = ComlynxReader.inRange (ps .comlynx)
+readableOn eversolarLine ps = EversolarReader.inRange (ps .eversolar)
+readableOn froniusLine ps = FroniusReader.inRange (ps .fronius)
+readableOn noLine ps = false
+
+abbrev pub readable : (port : ℕ) → Ports → Bool
+readable port ps = readableOn (lineOf port) ps
+
+-- ---- one call
+
+-- what a call makes: the next listing, what it came to, the bytes used, and the text
+pub record Made : Type 0 where
+  pub listing : Listing
+  pub heard : Heard
+  pub used : ℕ
+  pub text : List ℕ
+
+abbrev pub refused : Refusal → Listing → Made
+refused why l = record { listing = l; heard = Refused why; used = 0; text = [] }
+
+abbrev pub wantsMore : Listing → Made
+wantsMore l = record { listing = l; heard = More; used = 0; text = [] }
+
+abbrev pub ends : Listing → Option ℕ → Made
+ends l stop = record { listing = l; heard = End; used = 0; text = lastLines stop (l .messages) (l .damages) }
+
+-- a packet taken: its lines, and the counts
+abbrev pub takes : Listing → Packet → Fed → Made
+takes l p f =
+    let es = entriesOn (p .port) (f .events) in
+    record {
+      listing = record { ports = f .ports; packets = l .packets + 1; messages = l .messages + messagesIn es; damages = l .damages + damagesIn es };
+      heard = Took;
+      used = headLength + length (p .line);
+      text = linesOf es;
+    }
+
+-- the packet at the front of the input. Bytes are missing only once the input has ended: else more is wanted.
+-- Nothing of a refused packet is read
+unfoldable pub front : Listing → List ℕ → (ended : Bool) → Made
+front l s ended =
+    let n = number (packetAt s) in
+    cond (eqb n 0) (cond (readable (portIn s) (l .ports)) (takes l (packetIn s) (fed (packetIn s) (l .ports))) (refused Spoilt l))
+    (cond (eqb n (Refusal.told BytesMissing) && not ended) (wantsMore l) (ends l (some n)))
+
+unfoldable pub going : Listing → List ℕ → (ended : Bool) → Made
+going l [] ended = cond ended (ends l none) (wantsMore l)
+going l (b ∷ bs) ended = cond (eqb (l .packets) packetsMax) (ends l (some (Refusal.told TooManyPackets))) (front l (b ∷ bs) ended)
+
+-- a listing that may be: no more packets than are taken, and no more messages or damages than they have line bytes
+unfoldable pub inRange : Listing → Bool
+inRange l = leb (l .packets) packetsMax && (leb (l .messages) (lineMax * l .packets) && leb (l .damages) (lineMax * l .packets))
+
+-- what is to be lent at least: room for the lines of any packet
+abbrev pub roomLeast : ℕ
+roomLeast = 8192
+
+-- Tests: 18, then 9, then the input
+unfoldable pub made : Listing → List ℕ → (ended : Bool) → (room : ℕ) → Made
+made l input ended room = cond (inRange l) (cond (ltb room roomLeast) (refused NoRoom l) (going l input ended)) (refused Spoilt l)
+
+-- a listing that is never refused with 18
+pub record Sound (l : Listing) : Type 0 where
+  pub counts : inRange l ≡ true
+  pub first : readable 1 (l .ports) ≡ true
+  pub second : readable 2 (l .ports) ≡ true
+  pub third : readable 3 (l .ports) ≡ true
+
+-- WHAT `Listing::step` PROMISES, of listing, input, whether the input has ended, the lent buffer, the result and the buffer afterwards;
+-- and a sound listing stays sound
+abbrev pub IsStep : Listing → List ℕ → Bool → List ℕ → Listed → List ℕ → Type 0
+IsStep l input ended lent r later =
+    let m = made l input ended (length lent) in
+    (r ≡ record { listing = m .listing; heard = m .heard; used = m .used; wrote = length (m .text) })
+    × (later ≡ m .text ++ drop (length (m .text)) lent)
+    × (Sound l → Sound (r .listing))

@@ -1,0 +1,200 @@
+// A packet's line bytes, handed to the reader of their port until they are used up: a line for each message and each damage.
+use crate::shown::comlynx_line;
+use crate::shown::damage_line;
+use crate::shown::eversolar_line;
+use crate::shown::fronius_line;
+ghost use Prim.Native.Nat.{_≤_, _<_};
+ghost use lib.ListN.{length};
+ghost use Rattle.comlynx.specs.Machine as ComlynxMachine;
+ghost use Rattle.comlynx.specs.Reader as Comlynx;
+ghost use Rattle.eversolar.specs.Machine as EversolarMachine;
+ghost use Rattle.eversolar.specs.Reader as Eversolar;
+ghost use Rattle.fronius.specs.Machine as FroniusMachine;
+ghost use Rattle.fronius.specs.Reader as Fronius;
+ghost use Rattle.uplink.specs.Packet.{lineMax};
+ghost use Rattle.listing.specs.Entries.{showComlynx, showEversolar, showFronius};
+ghost use Rattle.listing.specs.Steps.{roomLeast};
+ghost use Rattle.listing.specs.Inside.{Drains};
+
+// What every reader is to be lent.
+const LENT: usize = 255;
+
+// What a line came to: the reader to go on with, whether it was refused, how much text was written, and the counts.
+pub(crate) struct ComlynxDrained {
+    pub reader: comlynx::Reader,
+    pub spoilt: bool,
+    pub wrote: usize,
+    pub messages: u64,
+    pub damages: u64,
+}
+
+pub(crate) struct EversolarDrained {
+    pub reader: eversolar::Reader,
+    pub spoilt: bool,
+    pub wrote: usize,
+    pub messages: u64,
+    pub damages: u64,
+}
+
+pub(crate) struct FroniusDrained {
+    pub reader: fronius::Reader,
+    pub spoilt: bool,
+    pub wrote: usize,
+    pub messages: u64,
+    pub damages: u64,
+}
+
+// One function a family, the same but for its reader and its line. The last step is kept whole: its reader goes straight into the
+// next call, which saves a copy of the state.
+pub(crate) fn drain_comlynx(
+    reader: comlynx::Reader,
+    port: u8,
+    line: &[u8],
+    out: &mut [u8],
+) -> ComlynxDrained
+    requires { ⌜ (1 ≤ port) × (port ≤ 3) × (0 < length (now line)) × (length (now line) ≤ lineMax) × (roomLeast ≤ length (now out)) ⌝ }
+    ensures { λ r. ⌜ Drains ComlynxMachine.next Comlynx.inRange showComlynx reader port (now (line .entry)) (now (out .entry)) (r .reader) (r .spoilt) (r .wrote) (r .messages) (r .damages) (now (out .exit)) ⌝ }
+{
+    let mut lent = [0u8; LENT];
+    let answer = comlynx::Answer::Done;
+    let mut s = comlynx::Step {
+        reader: reader,
+        answer: answer,
+        used: 0,
+    };
+    let mut spoilt = false;
+    let mut wrote: usize = 0;
+    let mut messages: u64 = 0;
+    let mut damages: u64 = 0;
+    let mut at: usize = 0;
+    while at < line.len() {
+        s = s.reader.step(&line[at..], &mut lent);
+        at += s.used;
+        let answer = s.answer;
+        match answer {
+            comlynx::Answer::Done => {}
+            comlynx::Answer::Message(h) => {
+                wrote += comlynx_line(port, h, &lent, &mut out[wrote..]);
+                messages += 1;
+            }
+            comlynx::Answer::Damaged(what) => {
+                wrote += damage_line(port, what, &mut out[wrote..]);
+                damages += 1;
+            }
+            comlynx::Answer::Refused(_) => {
+                spoilt = true;
+                break;
+            }
+        }
+    }
+    let next = s.reader;
+    ComlynxDrained {
+        reader: next,
+        spoilt: spoilt,
+        wrote: wrote,
+        messages: messages,
+        damages: damages,
+    }
+}
+
+pub(crate) fn drain_eversolar(
+    reader: eversolar::Reader,
+    port: u8,
+    line: &[u8],
+    out: &mut [u8],
+) -> EversolarDrained
+    requires { ⌜ (1 ≤ port) × (port ≤ 3) × (0 < length (now line)) × (length (now line) ≤ lineMax) × (roomLeast ≤ length (now out)) ⌝ }
+    ensures { λ r. ⌜ Drains EversolarMachine.next Eversolar.inRange showEversolar reader port (now (line .entry)) (now (out .entry)) (r .reader) (r .spoilt) (r .wrote) (r .messages) (r .damages) (now (out .exit)) ⌝ }
+{
+    let mut lent = [0u8; LENT];
+    let answer = eversolar::Answer::Done;
+    let mut s = eversolar::Step {
+        reader: reader,
+        answer: answer,
+        used: 0,
+    };
+    let mut spoilt = false;
+    let mut wrote: usize = 0;
+    let mut messages: u64 = 0;
+    let mut damages: u64 = 0;
+    let mut at: usize = 0;
+    while at < line.len() {
+        s = s.reader.step(&line[at..], &mut lent);
+        at += s.used;
+        let answer = s.answer;
+        match answer {
+            eversolar::Answer::Done => {}
+            eversolar::Answer::Message(h) => {
+                wrote += eversolar_line(port, h, &lent, &mut out[wrote..]);
+                messages += 1;
+            }
+            eversolar::Answer::Damaged(what) => {
+                wrote += damage_line(port, what, &mut out[wrote..]);
+                damages += 1;
+            }
+            eversolar::Answer::Refused(_) => {
+                spoilt = true;
+                break;
+            }
+        }
+    }
+    let next = s.reader;
+    EversolarDrained {
+        reader: next,
+        spoilt: spoilt,
+        wrote: wrote,
+        messages: messages,
+        damages: damages,
+    }
+}
+
+pub(crate) fn drain_fronius(
+    reader: fronius::Reader,
+    port: u8,
+    line: &[u8],
+    out: &mut [u8],
+) -> FroniusDrained
+    requires { ⌜ (1 ≤ port) × (port ≤ 3) × (0 < length (now line)) × (length (now line) ≤ lineMax) × (roomLeast ≤ length (now out)) ⌝ }
+    ensures { λ r. ⌜ Drains FroniusMachine.next Fronius.inRange showFronius reader port (now (line .entry)) (now (out .entry)) (r .reader) (r .spoilt) (r .wrote) (r .messages) (r .damages) (now (out .exit)) ⌝ }
+{
+    let mut lent = [0u8; LENT];
+    let answer = fronius::Answer::Done;
+    let mut s = fronius::Step {
+        reader: reader,
+        answer: answer,
+        used: 0,
+    };
+    let mut spoilt = false;
+    let mut wrote: usize = 0;
+    let mut messages: u64 = 0;
+    let mut damages: u64 = 0;
+    let mut at: usize = 0;
+    while at < line.len() {
+        s = s.reader.step(&line[at..], &mut lent);
+        at += s.used;
+        let answer = s.answer;
+        match answer {
+            fronius::Answer::Done => {}
+            fronius::Answer::Message(h) => {
+                wrote += fronius_line(port, h, &lent, &mut out[wrote..]);
+                messages += 1;
+            }
+            fronius::Answer::Damaged(what) => {
+                wrote += damage_line(port, what, &mut out[wrote..]);
+                damages += 1;
+            }
+            fronius::Answer::Refused(_) => {
+                spoilt = true;
+                break;
+            }
+        }
+    }
+    let next = s.reader;
+    FroniusDrained {
+        reader: next,
+        spoilt: spoilt,
+        wrote: wrote,
+        messages: messages,
+        damages: damages,
+    }
+}

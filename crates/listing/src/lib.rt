@@ -1,0 +1,353 @@
+// The listing of an input of packets, one packet a call. Nothing is read or written here: the input is handed in as it comes, the text goes to the front of a lent buffer.
+mod drain;
+mod shown;
+
+use crate::drain::drain_comlynx;
+use crate::drain::drain_eversolar;
+use crate::drain::drain_fronius;
+use crate::shown::length_of;
+use answers::Refusal;
+use ports::Ports;
+use uplink::HEAD;
+use uplink::LINE_MAX;
+use uplink::Received;
+ghost use mathlib.Core.Path.{_≡_};
+ghost use Prim.Native.Nat.{_≤_};
+ghost use lib.ListN.{length};
+ghost use Rattle.answers.specs.Refusal.{told};
+ghost use Rattle.lines.specs.Lines.{endLine};
+ghost use Rattle.listing.specs.Steps.{roomLeast, refused, wantsMore, ends, IsFresh, IsStep};
+ghost use Rattle.listing.specs.Inside.{Put};
+ghost use Rattle.listing.specs.Making.{few, stopMost, stopText, stopOf, endMost, listing, listed, HandsBack, CanTake, took, Takes, noPacket, atEnd};
+
+// How many packets are taken.
+pub const PACKETS_MAX: usize = 65536;
+
+// What is to be lent at least: room for the lines of any packet.
+pub const ROOM: usize = 8192;
+
+// A listing in progress: the readers, and what was counted so far.
+pub struct Listing {
+    pub ports: Ports,
+    // packets taken
+    pub packets: usize,
+    // messages and damages told
+    pub messages: u64,
+    pub damages: u64,
+}
+
+// What a call came to.
+pub enum Heard {
+    // the input at hand is the front of a packet, and more is to come: nothing is used or written
+    More,
+    // one packet was taken, and its lines are written
+    Packet,
+    // there is nothing more to list: the last lines are written
+    End,
+    // nothing is used or written
+    Refused(Refusal),
+}
+
+// What a call hands back: the listing to go on with, how many bytes of the input were used, and how many stand at the front of the lent buffer.
+pub struct Listed {
+    pub listing: Listing,
+    pub heard: Heard,
+    pub used: usize,
+    pub wrote: usize,
+}
+
+// Which port has which family.
+const COMLYNX: u8 = 1;
+
+const EVERSOLAR: u8 = 2;
+
+const FRONIUS: u8 = 3;
+
+// No stop line before the end line.
+const NO_STOP: u8 = 0;
+
+// Whether the counts may be: with so many packets at most, the product and all sums below stay small.
+fn in_range(packets: usize, messages: u64, damages: u64) -> bool
+    ensures { λ r. ⌜ r ≡ few packets messages damages ⌝ }
+{
+    if PACKETS_MAX < packets {
+        return false;
+    }
+    let most = (LINE_MAX * packets) as u64;
+    (messages <= most) & (damages <= most)
+}
+
+// The listing as it was, nothing used and nothing written.
+fn refused(l: Listing, why: Refusal) -> Listed
+    ensures { λ r. ⌜ r ≡ listed (refused why l) ⌝ }
+{
+    let heard = Heard::Refused(why);
+    Listed {
+        listing: l,
+        heard: heard,
+        used: 0,
+        wrote: 0,
+    }
+}
+
+fn wants_more(l: Listing) -> Listed
+    ensures { λ r. ⌜ r ≡ listed (wantsMore l) ⌝ }
+{
+    let heard = Heard::More;
+    Listed {
+        listing: l,
+        heard: heard,
+        used: 0,
+        wrote: 0,
+    }
+}
+
+// The line of what stops the listing, if something does.
+fn put_stop(stop: u8, out: &mut [u8]) -> usize
+    requires { ⌜ roomLeast ≤ length (now out) ⌝ }
+    ensures { λ r. ⌜ Put (stopText stop) (now (out .entry)) r (now (out .exit)) ⌝ }
+    ensures { λ r. ⌜ r ≤ stopMost ⌝ }
+{
+    if stop == NO_STOP {
+        return 0;
+    }
+    length_of(lines::stop(stop, out))
+}
+
+// The line with the counts.
+fn put_end(messages: u64, damages: u64, out: &mut [u8]) -> usize
+    requires { ⌜ endMost ≤ length (now out) ⌝ }
+    ensures { λ r. ⌜ Put (endLine messages damages) (now (out .entry)) r (now (out .exit)) ⌝ }
+    ensures { λ r. ⌜ r ≤ endMost ⌝ }
+{
+    length_of(lines::end(messages, damages, out))
+}
+
+// Nothing more to list: the last lines.
+fn over(l: Listing, stop: u8, out: &mut [u8]) -> Listed
+    requires { ⌜ roomLeast ≤ length (now out) ⌝ }
+    ensures { λ r. ⌜ HandsBack l (ends l (stopOf stop)) (now (out .entry)) r (now (out .exit)) ⌝ }
+{
+    let p = put_stop(stop, out);
+    let q = put_end(l.messages, l.damages, &mut out[p..]);
+    let heard = Heard::End;
+    Listed {
+        listing: l,
+        heard: heard,
+        used: 0,
+        wrote: p + q,
+    }
+}
+
+// A refused packet: one whose bytes are not all there yet may still be whole.
+fn no_packet(l: Listing, why: Refusal, ended: bool, out: &mut [u8]) -> Listed
+    requires { ⌜ roomLeast ≤ length (now out) ⌝ }
+    ensures { λ r. ⌜ HandsBack l (noPacket l (told why) ended) (now (out .entry)) r (now (out .exit)) ⌝ }
+{
+    let n = why.number();
+    if (n == Refusal::BytesMissing.number()) & !ended {
+        return wants_more(l);
+    }
+    over(l, n, out)
+}
+
+// A packet taken: the readers and the counts after it.
+fn taken(
+    ports: Ports,
+    packets: usize,
+    messages: u64,
+    damages: u64,
+    used: usize,
+    wrote: usize,
+) -> Listed
+    ensures { λ r. ⌜ r ≡ took ports packets messages damages used wrote ⌝ }
+{
+    let heard = Heard::Packet;
+    let listing = Listing {
+        ports: ports,
+        packets: packets,
+        messages: messages,
+        damages: damages,
+    };
+    Listed {
+        listing: listing,
+        heard: heard,
+        used: used,
+        wrote: wrote,
+    }
+}
+
+// A packet of each port: its reader is taken out, reads the line, and is put back. The listing comes in parts: whole, it would be copied
+// once more.
+fn on_comlynx(
+    mut ports: Ports,
+    packets: usize,
+    messages: u64,
+    damages: u64,
+    line: &[u8],
+    out: &mut [u8],
+) -> Listed
+    requires { ⌜ CanTake (listing ports packets messages damages) (length (now line)) (length (now out)) ⌝ }
+    ensures { λ r. ⌜ Takes 1 (listing ports packets messages damages) (now (line .entry)) (now (out .entry)) r (now (out .exit)) ⌝ }
+{
+    let reader = ports.comlynx;
+    let d = drain_comlynx(reader, COMLYNX, line, out);
+    if d.spoilt {
+        let l = Listing {
+            ports: ports,
+            packets: packets,
+            messages: messages,
+            damages: damages,
+        };
+        return refused(l, Refusal::Spoilt);
+    }
+    let next = d.reader;
+    ports.comlynx = next;
+    taken(
+        ports,
+        packets + 1,
+        messages + d.messages,
+        damages + d.damages,
+        HEAD + line.len(),
+        d.wrote,
+    )
+}
+
+fn on_eversolar(
+    mut ports: Ports,
+    packets: usize,
+    messages: u64,
+    damages: u64,
+    line: &[u8],
+    out: &mut [u8],
+) -> Listed
+    requires { ⌜ CanTake (listing ports packets messages damages) (length (now line)) (length (now out)) ⌝ }
+    ensures { λ r. ⌜ Takes 2 (listing ports packets messages damages) (now (line .entry)) (now (out .entry)) r (now (out .exit)) ⌝ }
+{
+    let reader = ports.eversolar;
+    let d = drain_eversolar(reader, EVERSOLAR, line, out);
+    if d.spoilt {
+        let l = Listing {
+            ports: ports,
+            packets: packets,
+            messages: messages,
+            damages: damages,
+        };
+        return refused(l, Refusal::Spoilt);
+    }
+    let next = d.reader;
+    ports.eversolar = next;
+    taken(
+        ports,
+        packets + 1,
+        messages + d.messages,
+        damages + d.damages,
+        HEAD + line.len(),
+        d.wrote,
+    )
+}
+
+fn on_fronius(
+    mut ports: Ports,
+    packets: usize,
+    messages: u64,
+    damages: u64,
+    line: &[u8],
+    out: &mut [u8],
+) -> Listed
+    requires { ⌜ CanTake (listing ports packets messages damages) (length (now line)) (length (now out)) ⌝ }
+    ensures { λ r. ⌜ Takes 3 (listing ports packets messages damages) (now (line .entry)) (now (out .entry)) r (now (out .exit)) ⌝ }
+{
+    let reader = ports.fronius;
+    let d = drain_fronius(reader, FRONIUS, line, out);
+    if d.spoilt {
+        let l = Listing {
+            ports: ports,
+            packets: packets,
+            messages: messages,
+            damages: damages,
+        };
+        return refused(l, Refusal::Spoilt);
+    }
+    let next = d.reader;
+    ports.fronius = next;
+    taken(
+        ports,
+        packets + 1,
+        messages + d.messages,
+        damages + d.damages,
+        HEAD + line.len(),
+        d.wrote,
+    )
+}
+
+// Where the input ends, or all that is at hand of it is used.
+fn at_end(l: Listing, ended: bool, out: &mut [u8]) -> Listed
+    requires { ⌜ roomLeast ≤ length (now out) ⌝ }
+    ensures { λ r. ⌜ HandsBack l (atEnd l ended) (now (out .entry)) r (now (out .exit)) ⌝ }
+{
+    if ended {
+        return over(l, NO_STOP, out);
+    }
+    wants_more(l)
+}
+
+impl Listing {
+    // Before the first packet.
+    pub fn fresh() -> Self
+        ensures { λ r. ⌜ IsFresh r ⌝ }
+    {
+        let ports = Ports::fresh();
+        Listing {
+            ports: ports,
+            packets: 0,
+            messages: 0,
+            damages: 0,
+        }
+    }
+
+    // One packet: that at the front of the input at hand. `ended` says that no more is to come after it. A packet's bytes are used, and its
+    // lines written, all or none.
+    pub fn step(self, input: &[u8], ended: bool, out: &mut [u8]) -> Listed
+        ensures { λ r. ⌜ IsStep self (now (input .entry)) ended (now (out .entry)) r (now (out .exit)) ⌝ }
+    {
+        if !in_range(self.packets, self.messages, self.damages) {
+            return refused(self, Refusal::Spoilt);
+        }
+        if out.len() < ROOM {
+            return refused(self, Refusal::NoRoom);
+        }
+        if input.len() == 0 {
+            return at_end(self, ended, out);
+        }
+        if self.packets == PACKETS_MAX {
+            return over(self, Refusal::TooManyPackets.number(), out);
+        }
+        let received = uplink::read(input);
+        match received {
+            Received::Packet {
+                port,
+                count: _,
+                used,
+            } => {
+                let line = &input[HEAD..used];
+                let ports = self.ports;
+                if port == COMLYNX {
+                    return on_comlynx(ports, self.packets, self.messages, self.damages, line, out);
+                }
+                if port == EVERSOLAR {
+                    return on_eversolar(
+                        ports,
+                        self.packets,
+                        self.messages,
+                        self.damages,
+                        line,
+                        out,
+                    );
+                }
+                on_fronius(ports, self.packets, self.messages, self.damages, line, out)
+            }
+            Received::Refused(why) => no_packet(self, why, ended, out),
+        }
+    }
+}

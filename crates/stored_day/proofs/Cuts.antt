@@ -1,0 +1,93 @@
+-- What the bytes at the front of an input decide of its first packet, whatever follows them.
+-- Assumes nothing.
+use Prim.Native.Nat.{ℕ, _+_, _*_, _≤_, _<_}
+use mathlib.Core.Path.{_≡_, refl, sym, ap, ap₂, _∙_}
+use mathlib.Core.Bool.{Bool, true, false, cond, _&&_}
+use mathlib.Core.List.{List, [], _∷_, _++_}
+use lib.ListN.{length, take, drop, getD, length-append, length-drop, List·getD-append}
+use lib.Seq.{take-append-le, drop-append-le}
+use lib.Dec.{leb, eqb}
+use borrow.Author.Tests.{leb-true, leb-false, le-leb, eqb-true}
+use native.Mathlib.Omega.{arith}
+use Rattle.answers.specs.Answer.{Answer, answer, number}
+use Rattle.answers.specs.Refusal.{told, refused}
+use Rattle.answers.specs.declared.Refusal.{Refusal}
+use Rattle.answers.specs.declared.Refusal.the-variants.{WrongMark, WrongVersion, WrongPort, BytesMissing}
+use Rattle.uplink.specs.Packet.{headLength, lineMax, known, versionOf, marked, versionIn, portIn, countIn, counted, carried, packetAt}
+use Rattle.listing.specs.Steps.{Packet, packetIn}
+use Rattle.uplink.proofs.Laws.{both, carried-count}
+use Rattle.uplink.proofs.Accepted.{port-within}
+
+-- ---- a head stays as it is, whatever follows
+
+module _ (s rest : List ℕ) (long : headLength ≤ length s) where
+  at : (i : ℕ) → i < headLength → getD (s ++ rest) i 0 ≡ getD s i 0
+  at i h = List·getD-append s rest 0 i (omega arith)
+
+  pub same-port : portIn (s ++ rest) ≡ portIn s
+  same-port = at 5 (omega arith)
+
+  pub same-count : countIn (s ++ rest) ≡ countIn s
+  same-count = at 6 (omega arith)
+
+  same-version : versionIn (s ++ rest) ≡ versionIn s
+  same-version = ap₂ (λ (h l : ℕ). 256 * h + l) (at 3 (omega arith)) (at 4 (omega arith))
+
+  same-mark : marked (s ++ rest) ≡ marked s
+  unfolding marked
+  same-mark = rw (at 0 (omega arith), at 1 (omega arith), at 2 (omega arith))
+
+  same-carried : carried (s ++ rest) ≡ carried s
+  unfolding carried
+  same-carried = rw (same-port, same-version, same-count)
+
+-- ---- what the front of an input is: too short to tell, refused whatever follows, or a packet whatever follows
+
+pub data Kind (s : List ℕ) : Type 0 where
+  short : number (packetAt s) ≡ told BytesMissing → length s < headLength + lineMax → Kind s
+  wrong : (why : Refusal) → eqb (told why) 0 ≡ false → eqb (told why) (told BytesMissing) ≡ false
+      → number (packetAt s) ≡ told why → ((rest : List ℕ) → number (packetAt (s ++ rest)) ≡ told why) → Kind s
+  packet : headLength ≤ length s → 1 ≤ portIn s → portIn s ≤ 3 → 1 ≤ countIn s → countIn s ≤ lineMax → headLength + countIn s ≤ length s
+      → number (packetAt s) ≡ 0 → ((rest : List ℕ) → number (packetAt (s ++ rest)) ≡ 0) → Kind s
+
+module _ (s : List ℕ) where
+  long-on : (rest : List ℕ) → headLength ≤ length s → leb headLength (length (s ++ rest)) ≡ true
+  long-on rest h = le-leb headLength (length (s ++ rest)) (simp length-append (omega arith))
+
+  ported : carried s ≡ true → known (versionIn s) ≡ true → (1 ≤ portIn s) × (portIn s ≤ 3)
+  unfolding carried
+  ported e k = port-within (portIn s) (ap known (eqb-true (versionOf (portIn s)) (versionIn s) (both (eqb (versionOf (portIn s)) (versionIn s)) (counted (countIn s)) e .0)) ∙ k)
+
+  by-tests : (t1 t2 t3 t4 t5 : Bool) → leb headLength (length s) ≡ t1 → marked s ≡ t2 → known (versionIn s) ≡ t3 → carried s ≡ t4 → leb (headLength + countIn s) (length s) ≡ t5 → Kind s
+  unfolding packetAt
+  by-tests false t2 t3 t4 t5 e1 e2 e3 e4 e5 = short (simp e1) (omega (arith, leb-false headLength (length s) e1))
+  by-tests true false t3 t4 t5 e1 e2 e3 e4 e5 =
+      let h = leb-true headLength (length s) e1 in
+      wrong WrongMark refl refl (simp (e1, e2)) (λ rest. simp (long-on rest h, same-mark s rest h, e2))
+  by-tests true true false t4 t5 e1 e2 e3 e4 e5 =
+      let h = leb-true headLength (length s) e1 in
+      wrong WrongVersion refl refl (simp (e1, e2, e3)) (λ rest. simp (long-on rest h, same-mark s rest h, e2, same-version s rest h, e3))
+  by-tests true true true false t5 e1 e2 e3 e4 e5 =
+      let h = leb-true headLength (length s) e1 in
+      wrong WrongPort refl refl (simp (e1, e2, e3, e4)) (λ rest. simp (long-on rest h, same-mark s rest h, e2, same-version s rest h, e3, same-carried s rest h, e4))
+  by-tests true true true true false e1 e2 e3 e4 e5 =
+      short (simp (e1, e2, e3, e4, e5)) (omega (arith, leb-false (headLength + countIn s) (length s) e5, carried-count s e4 .1))
+  by-tests true true true true true e1 e2 e3 e4 e5 =
+      let h = leb-true headLength (length s) e1 in
+      let l = leb-true (headLength + countIn s) (length s) e5 in
+      let p = ported e4 e3 in
+      packet h (p .0) (p .1) (carried-count s e4 .0) (carried-count s e4 .1) l (simp (e1, e2, e3, e4, e5))
+      (λ rest.
+      let l′ : leb (headLength + countIn s) (length (s ++ rest)) ≡ true = le-leb (headLength + countIn s) (length (s ++ rest)) (simp length-append (omega arith)) in
+      simp (long-on rest h, same-mark s rest h, e2, same-version s rest h, e3, same-carried s rest h, e4, same-count s rest h, l′))
+
+  pub kind : Kind s
+  kind = by-tests (leb headLength (length s)) (marked s) (known (versionIn s)) (carried s) (leb (headLength + countIn s) (length s)) refl refl refl refl refl
+
+-- the packet that stands there is the same, whatever follows
+pub same-packet : (s rest : List ℕ) → headLength ≤ length s → headLength + countIn s ≤ length s → packetIn (s ++ rest) ≡ packetIn s
+same-packet s rest h t =
+    let behind : drop headLength (s ++ rest) ≡ drop headLength s ++ rest = drop-append-le headLength s rest h in
+    let line : take (countIn s) (drop headLength s ++ rest) ≡ take (countIn s) (drop headLength s) = take-append-le (countIn s) (drop headLength s) rest (simp length-drop (omega arith)) in
+    ap₂ {C = Packet} (λ (port : ℕ) (l : List ℕ). record { port = port; line = l }) (same-port s rest h)
+    (ap (λ (n : ℕ). take n (drop headLength (s ++ rest))) (same-count s rest h) ∙ ap (take (countIn s)) behind ∙ line)

@@ -1,0 +1,9 @@
+pub mod Found
+pub mod Cuts
+pub mod Packets
+pub mod Outcome
+pub mod Fed
+pub mod Makes
+pub mod Ports
+pub mod Day
+pub mod Demands
