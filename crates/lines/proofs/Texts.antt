@@ -4,13 +4,13 @@ use Prim.Native.Nat.{ℕ, zero, suc, _+_, _*_, _/_, _%_, _≤_, _<_}
 use mathlib.Core.Path.{_≡_, refl, sym, ap, _∙_}
 use mathlib.Core.Bool.{Bool, true, false, cond, _||_}
 use mathlib.Core.List.{List, [], _∷_, _++_, append-assoc}
-use lib.ListN.{length, length-append}
+use lib.ListN.{length, getD, take, drop, length-append, take-append-drop}
 use lib.Dec.{ltb}
 use borrow.Author.Tests.{lt-ltb, le-ltb, ltb-true, ltb-false, ne-eqb}
-use native.Mathlib.Nat.{not-suc-le-zero}
+use native.Mathlib.Nat.{add-zero, zero-add, add-suc, suc-add, le-of-suc-le-suc, not-suc-le-zero}
 use native.Mathlib.Omega.{arith}
-use Rattle.lines.specs.Lines.{hex, field, digits, decimal, headLine, Shown, tooLong, fieldMax, messageLine, damageLine, stopLine, endWord, endLine}
-use Rattle.lines.specs.Inside.{widthOf, placesMax, messageLength, start}
+use Rattle.lines.specs.Lines.{hexDigit, hex, field, digits, decimal, headLine, Shown, tooLong, fieldMax, messageLine, damageLine, stopLine, endWord, endLine}
+use Rattle.lines.specs.Inside.{widthOf, digitsFrom, hexDigits, placesMax, messageLength, start}
 
 never : {A : Type 0} → true ≡ false → A
 never e = let z : _≡_ {A = ℕ} 0 1 = cc in absurd (omega arith)
@@ -20,6 +20,25 @@ never e = let z : _≡_ {A = ℕ} 0 1 = cc in absurd (omega arith)
 pub hex-length : (bs : List ℕ) → length (hex bs) ≡ 2 * length bs
 hex-length [] = refl
 hex-length (b ∷ bs) = omega (arith, hex-length bs)
+
+hex-append : (a b : List ℕ) → hex a ++ hex b ≡ hex (a ++ b)
+hex-append [] b = refl
+hex-append (x ∷ a) b = ap (λ (t : List ℕ). hexDigit (x / 16) ∷ hexDigit (x % 16) ∷ t) (hex-append a b)
+
+-- in two parts
+pub hex-parts : (n : ℕ) (bs : List ℕ) → hex (take n bs) ++ hex (drop n bs) ≡ hex bs
+hex-parts n bs = hex-append (take n bs) (drop n bs) ∙ ap hex (take-append-drop n bs)
+
+-- what stands in the table of digits
+at-from : (i n k : ℕ) → k < n → getD (digitsFrom i n) k 0 ≡ hexDigit (i + k)
+unfolding digitsFrom
+at-from i zero k h = absurd (not-suc-le-zero h)
+at-from i (suc n) zero h = ap hexDigit (sym (add-zero i))
+at-from i (suc n) (suc k) h = at-from (suc i) n k (le-of-suc-le-suc h) ∙ ap hexDigit (suc-add i k ∙ sym (add-suc i k))
+
+pub digit-at : (k : ℕ) → k < 16 → getD hexDigits k 0 ≡ hexDigit k
+unfolding hexDigits
+digit-at k h = at-from 0 16 k h ∙ ap hexDigit (zero-add k)
 
 pub width-some : (n : ℕ) → (n ≡ 0 → ⊥) → widthOf n ≡ 2 * n
 unfolding widthOf

@@ -1,12 +1,12 @@
 -- What the inner functions promise. No public promise cites these.
-use Prim.Native.Nat.{ℕ, _+_, _*_}
+use Prim.Native.Nat.{ℕ, zero, suc, _+_, _*_}
 use mathlib.Core.Path.{_≡_}
 use mathlib.Core.Bool.{cond}
 use mathlib.Core.List.{List, [], _∷_, _++_}
 use lib.ListN.{length}
 use lib.Seq.{sets}
 use lib.Dec.{eqb}
-use Rattle.lines.specs.Lines.{decimal, Shown}
+use Rattle.lines.specs.Lines.{hexDigit, decimal, Shown}
 
 -- `width`: the bytes that the field of n bytes takes
 unfoldable pub widthOf : ℕ → ℕ
@@ -14,6 +14,14 @@ widthOf n = cond (eqb n 0) 1 (2 * n)
 
 abbrev pub widthMax : ℕ
 widthMax = 510
+
+-- `digits`: those of i, i + 1, .., n of them; of all sixteen
+unfoldable pub digitsFrom : (i n : ℕ) → List ℕ
+digitsFrom i zero = []
+digitsFrom i (suc n) = hexDigit i ∷ digitsFrom (suc i) n
+
+unfoldable pub hexDigits : List ℕ
+hexDigits = digitsFrom 0 16
 
 -- the digits of a number of 64 bits, at most
 abbrev pub placesMax : ℕ

@@ -1,6 +1,7 @@
 // The text of each line of a listing, written at the front of a lent buffer.
 use crate::decimal::places;
 use crate::decimal::put_number;
+use crate::hex::digits;
 use crate::hex::put_field;
 use crate::hex::width;
 use answers::Refusal;
@@ -10,6 +11,7 @@ ghost use Rattle.lines.specs.Inside.{messageLength, start, Put};
 ghost use Prim.Native.Nat.{_+_, _≤_};
 ghost use mathlib.Core.Path.{_≡_};
 ghost use mathlib.Core.Bool.{false};
+ghost use lib.Dec.{ltb};
 ghost use lib.ListN.{length};
 
 mod decimal;
@@ -25,6 +27,9 @@ const END: [u8; 4] = *b"end ";
 
 // No list that a listing shows is longer.
 pub const FIELD_MAX: usize = 255;
+
+// No line of a message is longer.
+const LINE_MAX: usize = 2054;
 
 // Writes the header.
 pub fn head(lent: &mut [u8]) -> Written
@@ -60,6 +65,17 @@ fn message_length(port: u8, from: &[u8], to: &[u8], code: &[u8], content: &[u8])
         + 7
 }
 
+// Whether there is no room for it. Where there is room for any, its length is not needed.
+fn no_room(port: u8, from: &[u8], to: &[u8], code: &[u8], content: &[u8], room: usize) -> bool
+    requires { ⌜ tooLong (shown (now from) (now to) (now code) (now content)) ≡ false ⌝ }
+    ensures { λ r. ⌜ r ≡ ltb room (messageLength port (shown (now (from .entry)) (now (to .entry)) (now (code .entry)) (now (content .entry)))) ⌝ }
+{
+    if LINE_MAX <= room {
+        return false;
+    }
+    room < message_length(port, from, to, code, content)
+}
+
 // What stands before the four lists: the port, and 1, the answer that a message read is.
 fn put_start(port: u8, lent: &mut [u8]) -> usize
     requires { ⌜ length (decimal port) + 3 ≤ length (now lent) ⌝ }
@@ -84,11 +100,12 @@ fn put_message(
     requires { ⌜ messageLength port (shown (now from) (now to) (now code) (now content)) ≤ length (now lent) ⌝ }
     ensures { λ r. ⌜ Put (now (lent .entry)) 0 (messageLine port (shown (now (from .entry)) (now (to .entry)) (now (code .entry)) (now (content .entry)))) r (now (lent .exit)) ⌝ }
 {
+    let t = digits();
     let p = put_start(port, lent);
-    let q = put_field(from, b' ', lent, p);
-    let r = put_field(to, b' ', lent, q);
-    let s = put_field(code, b' ', lent, r);
-    put_field(content, b'\n', lent, s)
+    let q = put_field(from, b' ', &t, lent, p);
+    let r = put_field(to, b' ', &t, lent, q);
+    let s = put_field(code, b' ', &t, lent, r);
+    put_field(content, b'\n', &t, lent, s)
 }
 
 // Writes the line of a message that came from `port`. Nothing is stored before both tests have held.
@@ -105,7 +122,7 @@ pub fn message(
     if too_long(from, to, code, content) {
         return Written::Refused(Refusal::TooLong);
     }
-    if lent.len() < message_length(port, from, to, code, content) {
+    if no_room(port, from, to, code, content, lent.len()) {
         return Written::Refused(Refusal::NoRoom);
     }
     Written::Done(put_message(port, from, to, code, content, lent))

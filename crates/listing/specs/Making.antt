@@ -15,7 +15,7 @@ use Rattle.listing.specs.Steps.{Packet, packetsMax}
 use Rattle.listing.specs.Steps.{Made, fed, readable, refused, wantsMore, ends, takes, inRange, roomLeast, Sound}
 use Rattle.listing.specs.declared.Listing.{Listing}
 use Rattle.listing.specs.declared.Listed.{Listed}
-use Rattle.listing.specs.declared.Heard.the-variants.{Packet as Took}
+use Rattle.listing.specs.declared.Heard.the-variants.{Packet as Took, End}
 
 -- `in_range`
 abbrev pub few : (packets messages damages : ℕ) → Bool
@@ -35,10 +35,6 @@ stopText stop = cond (eqb stop 0) [] (stopLine stop)
 unfoldable pub stopOf : ℕ → Option ℕ
 stopOf stop = cond (eqb stop 0) none (some stop)
 
--- a listing, of its parts
-abbrev pub listing : Ports → (packets messages damages : ℕ) → Listing
-listing ports packets messages damages = record { ports = ports; packets = packets; messages = messages; damages = damages }
-
 -- what is handed back of what is made
 abbrev pub listed : Made → Listed
 listed m = record { listing = m .listing; heard = m .heard; used = m .used; wrote = length (m .text) }
@@ -46,6 +42,10 @@ listed m = record { listing = m .listing; heard = m .heard; used = m .used; wrot
 -- a call on l that makes m
 abbrev pub HandsBack : Listing → Made → (lent : List ℕ) → Listed → (later : List ℕ) → Type 0
 HandsBack l m lent r later = (r ≡ listed m) × (later ≡ m .text ++ drop (length (m .text)) lent) × (Sound l → Sound (r .listing))
+
+-- `finished`
+abbrev pub finish : Listing → (wrote : ℕ) → Listed
+finish l wrote = record { listing = l; heard = End; used = 0; wrote = wrote }
 
 -- a listing that can take a packet of so many line bytes, with so much room
 pub record CanTake (l : Listing) (line room : ℕ) : Type 0 where
@@ -70,10 +70,6 @@ took ports packets messages damages used wrote = record {
 -- of a packet, if its reader is in range
 unfoldable pub taking : Listing → Packet → Made
 taking l p = cond (readable (p .port) (l .ports)) (takes l p (fed p (l .ports))) (refused Spoilt l)
-
--- `on_comlynx`, `on_eversolar`, `on_fronius`
-abbrev pub Takes : (port : ℕ) → Listing → (line lent : List ℕ) → Listed → (later : List ℕ) → Type 0
-Takes port l line lent r later = HandsBack l (taking l (packet port line)) lent r later
 
 -- of a packet that is refused with n
 unfoldable pub noPacket : Listing → (n : ℕ) → (ended : Bool) → Made

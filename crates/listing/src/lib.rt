@@ -18,7 +18,8 @@ ghost use Rattle.answers.specs.Refusal.{told};
 ghost use Rattle.lines.specs.Lines.{endLine};
 ghost use Rattle.listing.specs.Steps.{roomLeast, refused, wantsMore, ends, IsFresh, IsStep};
 ghost use Rattle.listing.specs.Inside.{Put};
-ghost use Rattle.listing.specs.Making.{few, stopMost, stopText, stopOf, endMost, listing, listed, HandsBack, CanTake, took, Takes, noPacket, atEnd};
+ghost use Rattle.listing.specs.Entries.{lastLines};
+ghost use Rattle.listing.specs.Making.{few, stopMost, stopText, stopOf, endMost, listed, HandsBack, finish, took, noPacket, atEnd};
 
 // How many packets are taken.
 pub const PACKETS_MAX: usize = 65536;
@@ -123,20 +124,36 @@ fn put_end(messages: u64, damages: u64, out: &mut [u8]) -> usize
     length_of(lines::end(messages, damages, out))
 }
 
-// Nothing more to list: the last lines.
-fn over(l: Listing, stop: u8, out: &mut [u8]) -> Listed
+// The last lines.
+fn put_last(messages: u64, damages: u64, stop: u8, out: &mut [u8]) -> usize
     requires { ⌜ roomLeast ≤ length (now out) ⌝ }
-    ensures { λ r. ⌜ HandsBack l (ends l (stopOf stop)) (now (out .entry)) r (now (out .exit)) ⌝ }
+    ensures { λ r. ⌜ Put (lastLines (stopOf stop) messages damages) (now (out .entry)) r (now (out .exit)) ⌝ }
 {
     let p = put_stop(stop, out);
-    let q = put_end(l.messages, l.damages, &mut out[p..]);
+    let q = put_end(messages, damages, &mut out[p..]);
+    p + q
+}
+
+// Nothing more to list, and so many bytes of last lines.
+fn finished(l: Listing, wrote: usize) -> Listed
+    ensures { λ r. ⌜ r ≡ finish l wrote ⌝ }
+{
     let heard = Heard::End;
     Listed {
         listing: l,
         heard: heard,
         used: 0,
-        wrote: p + q,
+        wrote: wrote,
     }
+}
+
+// Nothing more to list: the last lines.
+fn over(l: Listing, stop: u8, out: &mut [u8]) -> Listed
+    requires { ⌜ roomLeast ≤ length (now out) ⌝ }
+    ensures { λ r. ⌜ HandsBack l (ends l (stopOf stop)) (now (out .entry)) r (now (out .exit)) ⌝ }
+{
+    let wrote = put_last(l.messages, l.damages, stop, out);
+    finished(l, wrote)
 }
 
 // A refused packet: one whose bytes are not all there yet may still be whole.
@@ -151,134 +168,17 @@ fn no_packet(l: Listing, why: Refusal, ended: bool, out: &mut [u8]) -> Listed
     over(l, n, out)
 }
 
-// A packet taken: the readers and the counts after it.
-fn taken(
-    ports: Ports,
-    packets: usize,
-    messages: u64,
-    damages: u64,
-    used: usize,
-    wrote: usize,
-) -> Listed
-    ensures { λ r. ⌜ r ≡ took ports packets messages damages used wrote ⌝ }
+// A packet taken: the listing after it.
+fn taken(l: Listing, used: usize, wrote: usize) -> Listed
+    ensures { λ r. ⌜ r ≡ took (l .ports) (l .packets) (l .messages) (l .damages) used wrote ⌝ }
 {
     let heard = Heard::Packet;
-    let listing = Listing {
-        ports: ports,
-        packets: packets,
-        messages: messages,
-        damages: damages,
-    };
     Listed {
-        listing: listing,
+        listing: l,
         heard: heard,
         used: used,
         wrote: wrote,
     }
-}
-
-// A packet of each port: its reader is taken out, reads the line, and is put back. The listing comes in parts: whole, it would be copied
-// once more.
-fn on_comlynx(
-    mut ports: Ports,
-    packets: usize,
-    messages: u64,
-    damages: u64,
-    line: &[u8],
-    out: &mut [u8],
-) -> Listed
-    requires { ⌜ CanTake (listing ports packets messages damages) (length (now line)) (length (now out)) ⌝ }
-    ensures { λ r. ⌜ Takes 1 (listing ports packets messages damages) (now (line .entry)) (now (out .entry)) r (now (out .exit)) ⌝ }
-{
-    let reader = ports.comlynx;
-    let d = drain_comlynx(reader, COMLYNX, line, out);
-    if d.spoilt {
-        let l = Listing {
-            ports: ports,
-            packets: packets,
-            messages: messages,
-            damages: damages,
-        };
-        return refused(l, Refusal::Spoilt);
-    }
-    let next = d.reader;
-    ports.comlynx = next;
-    taken(
-        ports,
-        packets + 1,
-        messages + d.messages,
-        damages + d.damages,
-        HEAD + line.len(),
-        d.wrote,
-    )
-}
-
-fn on_eversolar(
-    mut ports: Ports,
-    packets: usize,
-    messages: u64,
-    damages: u64,
-    line: &[u8],
-    out: &mut [u8],
-) -> Listed
-    requires { ⌜ CanTake (listing ports packets messages damages) (length (now line)) (length (now out)) ⌝ }
-    ensures { λ r. ⌜ Takes 2 (listing ports packets messages damages) (now (line .entry)) (now (out .entry)) r (now (out .exit)) ⌝ }
-{
-    let reader = ports.eversolar;
-    let d = drain_eversolar(reader, EVERSOLAR, line, out);
-    if d.spoilt {
-        let l = Listing {
-            ports: ports,
-            packets: packets,
-            messages: messages,
-            damages: damages,
-        };
-        return refused(l, Refusal::Spoilt);
-    }
-    let next = d.reader;
-    ports.eversolar = next;
-    taken(
-        ports,
-        packets + 1,
-        messages + d.messages,
-        damages + d.damages,
-        HEAD + line.len(),
-        d.wrote,
-    )
-}
-
-fn on_fronius(
-    mut ports: Ports,
-    packets: usize,
-    messages: u64,
-    damages: u64,
-    line: &[u8],
-    out: &mut [u8],
-) -> Listed
-    requires { ⌜ CanTake (listing ports packets messages damages) (length (now line)) (length (now out)) ⌝ }
-    ensures { λ r. ⌜ Takes 3 (listing ports packets messages damages) (now (line .entry)) (now (out .entry)) r (now (out .exit)) ⌝ }
-{
-    let reader = ports.fronius;
-    let d = drain_fronius(reader, FRONIUS, line, out);
-    if d.spoilt {
-        let l = Listing {
-            ports: ports,
-            packets: packets,
-            messages: messages,
-            damages: damages,
-        };
-        return refused(l, Refusal::Spoilt);
-    }
-    let next = d.reader;
-    ports.fronius = next;
-    taken(
-        ports,
-        packets + 1,
-        messages + d.messages,
-        damages + d.damages,
-        HEAD + line.len(),
-        d.wrote,
-    )
 }
 
 // Where the input ends, or all that is at hand of it is used.
@@ -287,7 +187,8 @@ fn at_end(l: Listing, ended: bool, out: &mut [u8]) -> Listed
     ensures { λ r. ⌜ HandsBack l (atEnd l ended) (now (out .entry)) r (now (out .exit)) ⌝ }
 {
     if ended {
-        return over(l, NO_STOP, out);
+        let wrote = put_last(l.messages, l.damages, NO_STOP, out);
+        return finished(l, wrote);
     }
     wants_more(l)
 }
@@ -308,7 +209,7 @@ impl Listing {
 
     // One packet: that at the front of the input at hand. `ended` says that no more is to come after it. A packet's bytes are used, and its
     // lines written, all or none.
-    pub fn step(self, input: &[u8], ended: bool, out: &mut [u8]) -> Listed
+    pub fn step(mut self, input: &[u8], ended: bool, out: &mut [u8]) -> Listed
         ensures { λ r. ⌜ IsStep self (now (input .entry)) ended (now (out .entry)) r (now (out .exit)) ⌝ }
     {
         if !in_range(self.packets, self.messages, self.damages) {
@@ -331,21 +232,49 @@ impl Listing {
                 used,
             } => {
                 let line = &input[HEAD..used];
-                let ports = self.ports;
                 if port == COMLYNX {
-                    return on_comlynx(ports, self.packets, self.messages, self.damages, line, out);
+                    let mut ports = self.ports;
+                    let reader = ports.comlynx;
+                    let d = drain_comlynx(reader, COMLYNX, line, out);
+                    if d.spoilt {
+                        return refused(self, Refusal::Spoilt);
+                    }
+                    let next = d.reader;
+                    ports.comlynx = next;
+                    self.ports = ports;
+                    self.packets += 1;
+                    self.messages += d.messages;
+                    self.damages += d.damages;
+                    return taken(self, HEAD + line.len(), d.wrote);
                 }
                 if port == EVERSOLAR {
-                    return on_eversolar(
-                        ports,
-                        self.packets,
-                        self.messages,
-                        self.damages,
-                        line,
-                        out,
-                    );
+                    let mut ports = self.ports;
+                    let reader = ports.eversolar;
+                    let d = drain_eversolar(reader, EVERSOLAR, line, out);
+                    if d.spoilt {
+                        return refused(self, Refusal::Spoilt);
+                    }
+                    let next = d.reader;
+                    ports.eversolar = next;
+                    self.ports = ports;
+                    self.packets += 1;
+                    self.messages += d.messages;
+                    self.damages += d.damages;
+                    return taken(self, HEAD + line.len(), d.wrote);
                 }
-                on_fronius(ports, self.packets, self.messages, self.damages, line, out)
+                let mut ports = self.ports;
+                let reader = ports.fronius;
+                let d = drain_fronius(reader, FRONIUS, line, out);
+                if d.spoilt {
+                    return refused(self, Refusal::Spoilt);
+                }
+                let next = d.reader;
+                ports.fronius = next;
+                self.ports = ports;
+                self.packets += 1;
+                self.messages += d.messages;
+                self.damages += d.damages;
+                taken(self, HEAD + line.len(), d.wrote)
             }
             Received::Refused(why) => no_packet(self, why, ended, out),
         }

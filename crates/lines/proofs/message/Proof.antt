@@ -2,9 +2,12 @@
 -- Assumes nothing.
 use native.Mathlib.Omega.{arith}
 use borrow.Author.Needs.{needs}
+use borrow.Author.Tests.{ltb-true, ltb-false}
+use lib.ListN.{length}
 use mathlib.Core.Path.{refl, sym, _∙_}
 use Rattle.answers.proofs.Writing.{writes-too-long, writes-no-room}
 use Rattle.lines.specs.Lines.{Shown, shown, tooLong, messageLine}
+use Rattle.lines.specs.Inside.{messageLength}
 use Rattle.lines.proofs.Texts.{message-length}
 use Rattle.lines.proofs.Puts.{written}
 use Rattle.lines.proofs.message.Statement.{statement}
@@ -21,17 +24,19 @@ returns c =
     let s = c .before .before .before .before .before .before .before in
     rw (sym (c .before .too-long .ensures) ∙ c .if1 .taken) (writes-too-long (messageLine (s .args .port) (given s)) (s .args .lent .now))
 
-message-length-requires : tie.Need-message-length-requires
-message-length-requires c κs = sym (c .before .too-long .ensures) ∙ c .if1 .left
+no-room-requires : tie.Need-no-room-requires
+no-room-requires c κs = sym (c .before .too-long .ensures) ∙ c .if1 .left
 
 returns-2 : tie.Need-returns-2
 returns-2 c =
     let s = c .before .before .before .before .before .before .before .before .before in
     rw (sym (c .before .before .before .too-long .ensures) ∙ c .before .before .if1 .left)
-    (writes-no-room (messageLine (s .args .port) (given s)) (s .args .lent .now) (omega (arith, message-length (s .args .port) (given s), c .before .message-length .ensures)))
+    (writes-no-room (messageLine (s .args .port) (given s)) (s .args .lent .now) (omega (arith, message-length (s .args .port) (given s), ltb-true (length (s .args .lent .now)) (messageLength (s .args .port) (given s)) (sym (c .before .no-room .ensures) ∙ c .if2 .taken))))
 
 put-message-requires : tie.Need-put-message-requires
-put-message-requires c κs = omega (arith, c .before .before .message-length .ensures)
+put-message-requires c κs =
+    let s = c .before .before .before .before .before .before .before .before .before .before in
+    ltb-false (length (s .args .lent .now)) (messageLength (s .args .port) (given s)) (sym (c .before .before .no-room .ensures) ∙ c .before .if2 .left)
 
 same-length : tie.Need-same-length
 same-length c = search needs
@@ -43,7 +48,7 @@ returns-3 c =
     let put = c .before .before .put-message in
     let line = messageLine (s .args .port) (given s) in
     rw (sym (e .before .before .before .too-long .ensures) ∙ e .before .before .if1 .left)
-    (written (s .args .lent .now) (put .last .1 .1 .1 .1 .1 .0) line line (put .result) refl (omega (arith, message-length (s .args .port) (given s), e .before .message-length .ensures)) (put .ensures))
+    (written (s .args .lent .now) (put .last .1 .1 .1 .1 .1 .0) line line (put .result) refl (omega (arith, message-length (s .args .port) (given s), ltb-false (length (s .args .lent .now)) (messageLength (s .args .port) (given s)) (sym (e .before .no-room .ensures) ∙ e .if2 .left))) (put .ensures))
 
 pub message-spec : {M : Type 1} → statement M
 message-spec =
@@ -51,7 +56,7 @@ message-spec =
     (tie.spec
     too-long-requires
     returns
-    message-length-requires
+    no-room-requires
     returns-2
     put-message-requires
     same-length

@@ -1,23 +1,29 @@
 -- `at_end` meets its promise: by its one test.
 -- Assumes nothing.
-use mathlib.Core.Path.{refl}
+use mathlib.Core.Path.{refl, ap}
 use denote.Ref.{now}
 use Rattle.listing.specs.Steps.{wantsMore}
-use Rattle.listing.specs.Making.{atEnd, stopOf}
+use Rattle.listing.specs.Making.{atEnd, stopOf, finish}
 use Rattle.listing.proofs.Making.{nothing}
 use borrow.Author.Needs.{needs}
 use Rattle.listing.proofs.at_end.Statement.{statement}
 use Rattle.listing.proofs.at_end.Tie as tie
 
-over-requires : tie.Need-over-requires
-over-requires c κs = search needs
+put-last-requires : tie.Need-put-last-requires
+put-last-requires c κs = search needs
+
+finished-requires : tie.Need-finished-requires
+finished-requires c κs = search needs
 
 same-length : tie.Need-same-length
 same-length c = search needs
 
 returns : tie.Need-returns
 unfolding atEnd stopOf
-returns c = rw (c .before .before .before .before .if1 .taken) (c .before .before .over .ensures)
+returns c =
+    let l = c .before .before .before .before .before .before .before .args .l in
+    let p = c .before .before .before .put-last .ensures in
+    rw (c .before .before .before .before .before .if1 .taken) (rw (c .finished .ensures) (ap (finish l) (p .0), p .1, λ x. x))
 
 wants-more-requires : tie.Need-wants-more-requires
 wants-more-requires c κs = search needs
@@ -29,4 +35,4 @@ returns-2 c =
     rw (c .before .if1 .left) (nothing (a .l) (wantsMore (a .l)) (now (a .out)) (c .wants-more .result) refl refl (c .wants-more .ensures))
 
 pub at-end-spec : {M : Type 1} → statement M
-at-end-spec = tie.close (tie.spec over-requires same-length returns wants-more-requires returns-2)
+at-end-spec = tie.close (tie.spec put-last-requires finished-requires same-length returns wants-more-requires returns-2)

@@ -1,53 +1,26 @@
--- `over` meets its promise: text after text.
+-- `over` meets its promise: by what the last lines are.
 -- Assumes nothing.
-use denote.Ref.{now}
-use Rattle.lines.specs.Lines.{endLine}
-use Rattle.listing.specs.Making.{stopText}
-use Rattle.listing.proofs.Making.{put-after, last-lines}
+use mathlib.Core.Path.{_∙_, ap}
+use Prim.Native.Nat.{ℕ}
+use Rattle.listing.specs.Making.{finish}
 use borrow.Author.Needs.{needs}
 use Rattle.listing.proofs.over.Statement.{statement}
 use Rattle.listing.proofs.over.Tie as tie
 
-put-stop-requires : tie.Need-put-stop-requires
-put-stop-requires c κs = search needs
+put-last-requires : tie.Need-put-last-requires
+put-last-requires c κs = search needs
 
-sub-put-end : tie.Need-sub-put-end
-sub-put-end c = search needs
-
-part-put-end-start : tie.Need-part-put-end-start
-part-put-end-start c = search needs
-
-part-put-end-end : tie.Need-part-put-end-end
-part-put-end-end c = search needs
-
-put-end-requires : tie.Need-put-end-requires
-put-end-requires c κs = search needs
-
-add-t10 : tie.Need-add-t10
-add-t10 c = search needs
+finished-requires : tie.Need-finished-requires
+finished-requires c κs = search needs
 
 same-length : tie.Need-same-length
 same-length c = search needs
 
 returns : tie.Need-returns
 returns c =
-    let a = c .before .before .before .before .before .before .before .before .before .args in
-    let s = c .before .before .before .before .before .before .put-stop in
-    let e = c .before .before .put-end in
-    let lines = last-lines (a .stop) (a .l .messages) (a .l .damages) in
-    let put =
-    put-after (stopText (a .stop)) (endLine (a .l .messages) (a .l .damages)) (now (a .out)) (s .last .1 .0) (e .last .1 .1 .0) (s .result) (e .result) (s .ensures .0) (e .ensures .0) in
-    rw lines (rw (put .0), put .1, λ x. x)
+    let l = c .before .before .before .before .before .before .args .l in
+    let p = c .before .before .before .put-last .ensures in
+    rw (c .finished .ensures) (ap (finish l) (p .0), p .1, λ x. x)
 
 pub over-spec : {M : Type 1} → statement M
-over-spec =
-    tie.close
-    (tie.spec
-    put-stop-requires
-    sub-put-end
-    part-put-end-start
-    part-put-end-end
-    put-end-requires
-    add-t10
-    same-length
-    returns)
+over-spec = tie.close (tie.spec put-last-requires finished-requires same-length returns)

@@ -36,18 +36,20 @@ returns c =
     let put = and (a .lent .now) (set (a .lent .now) (a .at) 45) (45 ∷ []) (a .at) (a .at + 1) (a .after) (refl, refl) in
     (rw e (omega arith, put .1), omega (arith, field-length (a .bytes .now), ap length e))
 
-put-hex-requires : tie.Need-put-hex-requires
-put-hex-requires c κs = omega (arith, width-some (length (c .before .before .before .before .args .bytes .now)) (c .before .if1 .left))
+put-all-requires : tie.Need-put-all-requires
+put-all-requires c κs =
+    let s = c .before .before .before .before in
+    (s .pre .0, omega (arith, width-some (length (s .args .bytes .now)) (c .before .if1 .left)))
 
 slice-write-lent-3 : tie.Need-slice-write-lent-3
 slice-write-lent-3 c =
     let a = c .before .before .before .before .before .before .before .args in
-    omega (arith, width-some (length (a .bytes .now)) (c .before .before .before .before .if1 .left), c .before .before .put-hex .ensures .0, hex-length (a .bytes .now))
+    omega (arith, width-some (length (a .bytes .now)) (c .before .before .before .before .if1 .left), c .before .before .put-all .ensures .0, hex-length (a .bytes .now))
 
 add-result-2 : tie.Need-add-result-2
 add-result-2 c =
     let a = c .before .before .before .before .before .before .before .args in
-    omega (arith, width-some (length (a .bytes .now)) (c .before .before .before .before .if1 .left), c .before .before .put-hex .ensures .0, hex-length (a .bytes .now))
+    omega (arith, width-some (length (a .bytes .now)) (c .before .before .before .before .if1 .left), c .before .before .put-all .ensures .0, hex-length (a .bytes .now))
 
 same-length-2 : tie.Need-same-length-2
 same-length-2 c = search needs
@@ -55,9 +57,9 @@ same-length-2 c = search needs
 returns-2 : tie.Need-returns-2
 returns-2 c =
     let a = c .before .before .before .before .before .before .before .args in
-    let r = c .before .before .put-hex in
+    let r = c .before .before .put-all in
     let some = c .before .before .before .before .if1 .left in (
-      rw (field-some (a .bytes .now) some) (and (a .lent .now) (r .last .1 .0) (hex (a .bytes .now)) (a .at) (r .result) (a .after) (r .ensures)),
+      rw (field-some (a .bytes .now) some) (and (a .lent .now) (r .last .1 .1 .0) (hex (a .bytes .now)) (a .at) (r .result) (a .after) (r .ensures)),
       omega (arith, width-some (length (a .bytes .now)) some, r .ensures .0, hex-length (a .bytes .now)),
     )
 
@@ -71,7 +73,7 @@ put-field-spec =
     add-result
     same-length
     returns
-    put-hex-requires
+    put-all-requires
     slice-write-lent-3
     add-result-2
     same-length-2

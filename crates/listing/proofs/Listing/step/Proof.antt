@@ -15,7 +15,7 @@ use Rattle.uplink.specs.declared.Received.the-variants.{Packet}
 use Rattle.uplink.proofs.Demands.{fits}
 use Rattle.listing.specs.Steps.{refused, ends, inRange, roomLeast, made}
 use Rattle.listing.specs.Making.{stopOf, CanTake, packet, taking}
-use Rattle.listing.proofs.Making.{in-few, counts-few, same-made, nothing, line-long, out-of-range, no-room, no-input, too-many, one-packet, refused-packet}
+use Rattle.listing.proofs.Making.{fits as counts-fit, in-few, counts-few, same-made, nothing, line-long, on-first, on-second, on-third, drain-refused, drain-taken, out-of-range, no-room, no-input, too-many, one-packet, refused-packet}
 use borrow.Author.Needs.{needs}
 use Rattle.listing.proofs.Listing.step.Statement.{statement}
 use Rattle.listing.proofs.Listing.step.Tie as tie
@@ -158,36 +158,150 @@ part-line-start c = omega (arith, within (c .before) .uses)
 part-line-end : tie.Need-part-line-end
 part-line-end c = omega (arith, within (c .before) .there)
 
-on-comlynx-requires : tie.Need-on-comlynx-requires
-on-comlynx-requires c κs = can-take (c .before .before .before .before .before)
+drain-comlynx-requires : tie.Need-drain-comlynx-requires
+drain-comlynx-requires c κs = let t = can-take (c .before .before .before .before .before .before) in (omega arith, omega arith, t .some, t .most, t .lent)
+
+refused-requires-3 : tie.Need-refused-requires-3
+refused-requires-3 c κs = search needs
 
 same-length-3 : tie.Need-same-length-3
 same-length-3 c = search needs
 
 returns-5 : tie.Need-returns-5
 returns-5 c =
-    let p : tie.After-received = c .before .before .before .before .before .before .before .before in
+    let p : tie.After-received = c .before .before .before .before .before .before .before .before .before .before .before in
     let a = args-of (from-four (at-packet p)) .args in
-    let r = c .before .before .on-comlynx in
-    let one : port-of p ≡ 1 = omega (arith, c .before .before .before .before .if5 .taken) in
-    same-made (a .self) (now (a .out)) (r .last .1 .1 .1 .1 .1 .0) (r .result) (at-port p 1 one) (r .ensures)
+    let d = c .before .before .before .before .drain-comlynx in
+    let is : port-of p ≡ 1 = omega (arith, c .before .before .before .before .before .before .before .before .if5 .taken) in
+    let r = c .refused3 in
+    same-made (a .self) (now (a .out)) (d .last .1 .1 .1 .0) (r .result) (at-port p 1 is)
+    (drain-refused on-first (a .self) (line-of p) (now (a .out)) (d .last .1 .1 .1 .0) (d .result .reader) (d .result .spoilt) (d .result .wrote) (d .result .messages) (d .result .damages)
+    (r .result) (d .ensures) (c .before .if6 .taken) (r .ensures))
 
-on-eversolar-requires : tie.Need-on-eversolar-requires
-on-eversolar-requires c κs = can-take (c .before .before .before .before .before .before)
+add-self : tie.Need-add-self
+add-self c = omega (arith, can-take (c .before .before .before .before .before .before .before .before .before .before .before .before) .packets)
+
+add-self-2 : tie.Need-add-self-2
+add-self-2 c =
+    let p : tie.After-received = c .before .before .before .before .before .before .before .before .before .before .before .before .before .before in
+    counts-fit (args-of (from-four (at-packet p)) .args .self) (can-take p) (c .before .before .before .before .before .before .before .drain-comlynx .ensures .few) .0
+
+add-self-3 : tie.Need-add-self-3
+add-self-3 c =
+    let p : tie.After-received = c .before .before .before .before .before .before .before .before .before .before .before .before .before .before .before .before in
+    counts-fit (args-of (from-four (at-packet p)) .args .self) (can-take p) (c .before .before .before .before .before .before .before .before .before .drain-comlynx .ensures .few) .1
+
+add-taken : tie.Need-add-taken
+add-taken c = omega (arith, can-take (c .before .before .before .before .before .before .before .before .before .before .before .before .before .before .before .before) .most)
+
+taken-requires : tie.Need-taken-requires
+taken-requires c κs = search needs
 
 same-length-4 : tie.Need-same-length-4
-same-length-4 c = search needs
+same-length-4 c = let d = c .before .before .before .before .before .before .before .before .before .before .drain-comlynx in search (needs, d)
 
 returns-6 : tie.Need-returns-6
 returns-6 c =
-    let p : tie.After-received = c .before .before .before .before .before .before .before .before .before in
+    let p : tie.After-received = c .before .before .before .before .before .before .before .before .before .before .before .before .before .before .before .before .before in
     let a = args-of (from-four (at-packet p)) .args in
-    let r = c .before .before .on-eversolar in
-    let two : port-of p ≡ 2 = omega (arith, c .before .before .before .before .if6 .taken) in
-    same-made (a .self) (now (a .out)) (r .last .1 .1 .1 .1 .1 .0) (r .result) (at-port p 2 two) (r .ensures)
+    let d = c .before .before .before .before .before .before .before .before .before .before .drain-comlynx in
+    let is : port-of p ≡ 1 = omega (arith, c .before .before .before .before .before .before .before .before .before .before .before .before .before .before .if5 .taken) in
+    let r = c .taken in
+    same-made (a .self) (now (a .out)) (d .last .1 .1 .1 .0) (r .result) (at-port p 1 is)
+    (drain-taken on-first (a .self) (line-of p) (now (a .out)) (d .last .1 .1 .1 .0) (d .result .reader) (d .result .spoilt) (d .result .wrote) (d .result .messages) (d .result .damages)
+    (r .result) (d .ensures) (c .before .before .before .before .before .before .before .if6 .left) (can-take p) (r .ensures))
 
-on-fronius-requires : tie.Need-on-fronius-requires
-on-fronius-requires c κs = can-take (c .before .before .before .before .before .before)
+drain-eversolar-requires : tie.Need-drain-eversolar-requires
+drain-eversolar-requires c κs = let t = can-take (c .before .before .before .before .before .before .before) in (omega arith, omega arith, t .some, t .most, t .lent)
+
+refused-requires-4 : tie.Need-refused-requires-4
+refused-requires-4 c κs = search needs
+
+same-length-5 : tie.Need-same-length-5
+same-length-5 c = search needs
+
+returns-7 : tie.Need-returns-7
+returns-7 c =
+    let p : tie.After-received = c .before .before .before .before .before .before .before .before .before .before .before .before in
+    let a = args-of (from-four (at-packet p)) .args in
+    let d = c .before .before .before .before .drain-eversolar in
+    let is : port-of p ≡ 2 = omega (arith, c .before .before .before .before .before .before .before .before .if7 .taken) in
+    let r = c .refused4 in
+    same-made (a .self) (now (a .out)) (d .last .1 .1 .1 .0) (r .result) (at-port p 2 is)
+    (drain-refused on-second (a .self) (line-of p) (now (a .out)) (d .last .1 .1 .1 .0) (d .result .reader) (d .result .spoilt) (d .result .wrote) (d .result .messages) (d .result .damages)
+    (r .result) (d .ensures) (c .before .if8 .taken) (r .ensures))
+
+add-self-4 : tie.Need-add-self-4
+add-self-4 c = omega (arith, can-take (c .before .before .before .before .before .before .before .before .before .before .before .before .before) .packets)
+
+add-self-5 : tie.Need-add-self-5
+add-self-5 c =
+    let p : tie.After-received = c .before .before .before .before .before .before .before .before .before .before .before .before .before .before .before in
+    counts-fit (args-of (from-four (at-packet p)) .args .self) (can-take p) (c .before .before .before .before .before .before .before .drain-eversolar .ensures .few) .0
+
+add-self-6 : tie.Need-add-self-6
+add-self-6 c =
+    let p : tie.After-received = c .before .before .before .before .before .before .before .before .before .before .before .before .before .before .before .before .before in
+    counts-fit (args-of (from-four (at-packet p)) .args .self) (can-take p) (c .before .before .before .before .before .before .before .before .before .drain-eversolar .ensures .few) .1
+
+add-taken-2 : tie.Need-add-taken-2
+add-taken-2 c = omega (arith, can-take (c .before .before .before .before .before .before .before .before .before .before .before .before .before .before .before .before .before) .most)
+
+taken-requires-2 : tie.Need-taken-requires-2
+taken-requires-2 c κs = search needs
+
+same-length-6 : tie.Need-same-length-6
+same-length-6 c = let d = c .before .before .before .before .before .before .before .before .before .before .drain-eversolar in search (needs, d)
+
+returns-8 : tie.Need-returns-8
+returns-8 c =
+    let p : tie.After-received = c .before .before .before .before .before .before .before .before .before .before .before .before .before .before .before .before .before .before in
+    let a = args-of (from-four (at-packet p)) .args in
+    let d = c .before .before .before .before .before .before .before .before .before .before .drain-eversolar in
+    let is : port-of p ≡ 2 = omega (arith, c .before .before .before .before .before .before .before .before .before .before .before .before .before .before .if7 .taken) in
+    let r = c .taken2 in
+    same-made (a .self) (now (a .out)) (d .last .1 .1 .1 .0) (r .result) (at-port p 2 is)
+    (drain-taken on-second (a .self) (line-of p) (now (a .out)) (d .last .1 .1 .1 .0) (d .result .reader) (d .result .spoilt) (d .result .wrote) (d .result .messages) (d .result .damages)
+    (r .result) (d .ensures) (c .before .before .before .before .before .before .before .if8 .left) (can-take p) (r .ensures))
+
+drain-fronius-requires : tie.Need-drain-fronius-requires
+drain-fronius-requires c κs = let t = can-take (c .before .before .before .before .before .before .before) in (omega arith, omega arith, t .some, t .most, t .lent)
+
+refused-requires-5 : tie.Need-refused-requires-5
+refused-requires-5 c κs = search needs
+
+same-length-7 : tie.Need-same-length-7
+same-length-7 c = search needs
+
+returns-9 : tie.Need-returns-9
+returns-9 c =
+    let p : tie.After-received = c .before .before .before .before .before .before .before .before .before .before .before .before in
+    let a = args-of (from-four (at-packet p)) .args in
+    let d = c .before .before .before .before .drain-fronius in
+    let is : port-of p ≡ 3 = omega (arith, within p .first, within p .last, c .before .before .before .before .before .before .before .before .before .if5 .left, c .before .before .before .before .before .before .before .before .if7 .left) in
+    let r = c .refused5 in
+    same-made (a .self) (now (a .out)) (d .last .1 .1 .1 .0) (r .result) (at-port p 3 is)
+    (drain-refused on-third (a .self) (line-of p) (now (a .out)) (d .last .1 .1 .1 .0) (d .result .reader) (d .result .spoilt) (d .result .wrote) (d .result .messages) (d .result .damages)
+    (r .result) (d .ensures) (c .before .if9 .taken) (r .ensures))
+
+add-self-7 : tie.Need-add-self-7
+add-self-7 c = omega (arith, can-take (c .before .before .before .before .before .before .before .before .before .before .before .before .before) .packets)
+
+add-self-8 : tie.Need-add-self-8
+add-self-8 c =
+    let p : tie.After-received = c .before .before .before .before .before .before .before .before .before .before .before .before .before .before .before in
+    counts-fit (args-of (from-four (at-packet p)) .args .self) (can-take p) (c .before .before .before .before .before .before .before .drain-fronius .ensures .few) .0
+
+add-self-9 : tie.Need-add-self-9
+add-self-9 c =
+    let p : tie.After-received = c .before .before .before .before .before .before .before .before .before .before .before .before .before .before .before .before .before in
+    counts-fit (args-of (from-four (at-packet p)) .args .self) (can-take p) (c .before .before .before .before .before .before .before .before .before .drain-fronius .ensures .few) .1
+
+add-taken-3 : tie.Need-add-taken-3
+add-taken-3 c = omega (arith, can-take (c .before .before .before .before .before .before .before .before .before .before .before .before .before .before .before .before .before) .most)
+
+taken-requires-3 : tie.Need-taken-requires-3
+taken-requires-3 c κs = search needs
 
 enum-known-received-2 : tie.Need-enum-known-received-2
 enum-known-received-2 c = search needs
@@ -195,23 +309,25 @@ enum-known-received-2 c = search needs
 no-packet-requires : tie.Need-no-packet-requires
 no-packet-requires c κs = search needs
 
-same-length-5 : tie.Need-same-length-5
-same-length-5 c = search needs
+same-length-8 : tie.Need-same-length-8
+same-length-8 c = let d = c .before .before .before .before .before .before .before .before .before .before .drain-fronius in search (needs, d)
 
-returns-7 : tie.Need-returns-7
-returns-7 c =
-    let p : tie.After-received = c .before .before .before .before .before .before .before .before .before in
+returns-10 : tie.Need-returns-10
+returns-10 c =
+    let p : tie.After-received = c .before .before .before .before .before .before .before .before .before .before .before .before .before .before .before .before .before .before in
     let a = args-of (from-four (at-packet p)) .args in
-    let r = c .before .before .on-fronius in
-    let w = within p in
-    let three : port-of p ≡ 3 = omega (arith, w .first, w .last, c .before .before .before .before .before .if5 .left, c .before .before .before .before .if6 .left) in
-    same-made (a .self) (now (a .out)) (r .last .1 .1 .1 .1 .1 .0) (r .result) (at-port p 3 three) (r .ensures)
+    let d = c .before .before .before .before .before .before .before .before .before .before .drain-fronius in
+    let is : port-of p ≡ 3 = omega (arith, within p .first, within p .last, c .before .before .before .before .before .before .before .before .before .before .before .before .before .before .before .if5 .left, c .before .before .before .before .before .before .before .before .before .before .before .before .before .before .if7 .left) in
+    let r = c .taken3 in
+    same-made (a .self) (now (a .out)) (d .last .1 .1 .1 .0) (r .result) (at-port p 3 is)
+    (drain-taken on-third (a .self) (line-of p) (now (a .out)) (d .last .1 .1 .1 .0) (d .result .reader) (d .result .spoilt) (d .result .wrote) (d .result .messages) (d .result .damages)
+    (r .result) (d .ensures) (c .before .before .before .before .before .before .before .if9 .left) (can-take p) (r .ensures))
 
-same-length-6 : tie.Need-same-length-6
-same-length-6 c = search needs
+same-length-9 : tie.Need-same-length-9
+same-length-9 c = search needs
 
-returns-8 : tie.Need-returns-8
-returns-8 c =
+returns-11 : tie.Need-returns-11
+returns-11 c =
     let p : tie.After-received2 = c .before .before .before .before .before in
     let four : tie.Else4 = p .before .before .before in
     let e = from-four four in
@@ -242,16 +358,40 @@ step-spec =
     sub-line
     part-line-start
     part-line-end
-    on-comlynx-requires
+    drain-comlynx-requires
+    refused-requires-3
     same-length-3
     returns-5
-    on-eversolar-requires
+    add-self
+    add-self-2
+    add-self-3
+    add-taken
+    taken-requires
     same-length-4
     returns-6
-    on-fronius-requires
-    enum-known-received-2
-    no-packet-requires
+    drain-eversolar-requires
+    refused-requires-4
     same-length-5
     returns-7
+    add-self-4
+    add-self-5
+    add-self-6
+    add-taken-2
+    taken-requires-2
     same-length-6
-    returns-8)
+    returns-8
+    drain-fronius-requires
+    refused-requires-5
+    same-length-7
+    returns-9
+    add-self-7
+    add-self-8
+    add-self-9
+    add-taken-3
+    taken-requires-3
+    enum-known-received-2
+    no-packet-requires
+    same-length-8
+    returns-10
+    same-length-9
+    returns-11)
