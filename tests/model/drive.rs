@@ -1,0 +1,403 @@
+//! Drives the programs and the model on the same cases and compares every byte.
+
+mod calls;
+mod fields;
+mod known;
+mod programs;
+mod random;
+mod streams;
+mod two_ways;
+
+use calls::Call;
+use programs::Program;
+use random::Random;
+use std::panic::catch_unwind;
+use std::process::ExitCode;
+use std::sync::atomic::{AtomicBool, AtomicUsize, Ordering};
+use std::sync::Mutex;
+
+/// The model that is compared: a session of `probe` and a run of `sbrlist`.
+#[derive(Clone, Copy)]
+pub struct Model {
+    pub session: fn(&[u8]) -> Vec<u8>,
+    pub listing: fn(&[u8]) -> Vec<u8>,
+}
+
+/// How much of what is run.
+struct Amount {
+    random_sessions: usize,
+    listings: usize,
+    full_listings: usize,
+}
+
+const DEFAULT: Amount = Amount { random_sessions: 40, listings: 1000, full_listings: 6 };
+const LONG: Amount = Amount { random_sessions: 800, listings: 12_000, full_listings: 24 };
+const CALLS_IN_A_SESSION: usize = 600;
+const LISTINGS_IN_A_JOB: usize = 20;
+const STREAMS_IN_TWO_WAYS: u64 = 300;
+
+#[derive(Clone, Copy)]
+enum Job {
+    KnownCalls,
+    KnownListings,
+    TwoWays(usize),
+    Sweep(usize),
+    RandomSession(usize),
+    BrokenSession(usize),
+    Listings(usize),
+    FullListing(usize),
+}
+
+/// What a run was asked for.
+struct Run {
+    model: Model,
+    probe: Program,
+    sbrlist: Program,
+    seed: u64,
+    at_once: usize,
+    amount: Amount,
+    /// Whether `sbrlist` is run at all.
+    lists: bool,
+}
+
+#[derive(Default)]
+struct Counts {
+    calls: AtomicUsize,
+    listings: AtomicUsize,
+}
+
+/// `[--long] [--seed N] [--against-model] [--calls-only]`
+pub fn run(model: Model, arguments: impl Iterator<Item = String>) -> ExitCode {
+    let run = match asked_for(model, arguments) {
+        Ok(run) => run,
+        Err(wrong) => {
+            eprintln!("{wrong}");
+            return ExitCode::from(2);
+        }
+    };
+    let counts = Counts::default();
+    let disagreement = first_disagreement(&run, &counts);
+    let (calls, listings) =
+        (counts.calls.load(Ordering::Relaxed), counts.listings.load(Ordering::Relaxed));
+    match disagreement {
+        None => {
+            println!("agree: {calls} calls and {listings} listings, seed {}", run.seed);
+            ExitCode::SUCCESS
+        }
+        Some(report) => {
+            println!("DISAGREE: seed {}, {report}", run.seed);
+            println!("before it {calls} calls and {listings} listings agreed");
+            ExitCode::from(1)
+        }
+    }
+}
+
+fn asked_for(model: Model, mut arguments: impl Iterator<Item = String>) -> Result<Run, String> {
+    let mut run = Run {
+        model,
+        probe: Program::of_environment("PROBE", "bin/probe"),
+        sbrlist: Program::of_environment("SBRLIST", "bin/sbrlist"),
+        seed: 1,
+        at_once: 2,
+        amount: DEFAULT,
+        lists: true,
+    };
+    while let Some(argument) = arguments.next() {
+        match argument.as_str() {
+            "--long" => run.amount = LONG,
+            "--seed" => run.seed = seed_of(arguments.next())?,
+            "--against-model" => {
+                run.probe = Program::Model(right::probe::session);
+                run.sbrlist = Program::Model(right::listing::listing);
+                run.at_once = 1;
+            }
+            "--calls-only" => run.lists = false,
+            other => return Err(format!("no such argument: {other}")),
+        }
+    }
+    Ok(run)
+}
+
+fn seed_of(argument: Option<String>) -> Result<u64, String> {
+    argument.and_then(|seed| seed.parse().ok()).ok_or("--seed needs a number".to_string())
+}
+
+/// The sweeps, then random cases of every kind. The known cases come first; against the model
+/// last, so that a fault is left to the generators.
+fn jobs(run: &Run, sweeps: usize) -> Vec<Job> {
+    let mut jobs = Vec::new();
+    jobs.extend((0..4).map(Job::BrokenSession));
+    jobs.extend((0..sweeps).map(Job::Sweep));
+    let listing_jobs = run.amount.listings / LISTINGS_IN_A_JOB;
+    for order in 0..listing_jobs.max(run.amount.random_sessions).max(run.amount.full_listings) {
+        if order < listing_jobs {
+            jobs.push(Job::Listings(order));
+        }
+        if order < run.amount.random_sessions {
+            jobs.push(Job::RandomSession(order));
+            jobs.push(Job::BrokenSession(order + 4));
+        }
+        if order < run.amount.full_listings {
+            jobs.push(Job::FullListing(order));
+        }
+    }
+    let two_ways = (0..3).map(Job::TwoWays);
+    let known: Vec<Job> =
+        [Job::KnownCalls, Job::KnownListings].into_iter().chain(two_ways).collect();
+    let mut jobs = match run.probe {
+        Program::Model(_) => [jobs, known].concat(),
+        Program::Command(_) => [known, jobs].concat(),
+    };
+    jobs.retain(|&job| run.lists || !is_of_listings(job));
+    jobs
+}
+
+fn is_of_listings(job: Job) -> bool {
+    matches!(job, Job::KnownListings | Job::Listings(_) | Job::FullListing(_))
+}
+
+/// The jobs in turn, some at once, until one disagrees.
+fn first_disagreement(run: &Run, counts: &Counts) -> Option<String> {
+    let sweeps = calls::sweeps(&mut Random::of(run.seed, 0, 0));
+    let sweeps: Vec<&[Call]> = sweeps.chunks(CALLS_IN_A_SESSION).collect();
+    let jobs = jobs(run, sweeps.len());
+    let (next, stop, found) = (AtomicUsize::new(0), AtomicBool::new(false), Mutex::new(None));
+    std::thread::scope(|scope| {
+        for _ in 0..run.at_once {
+            scope.spawn(|| {
+                while let Some(&job) = jobs.get(next.fetch_add(1, Ordering::Relaxed)) {
+                    if stop.load(Ordering::Relaxed) {
+                        break;
+                    }
+                    if let Err(report) = do_job(run, job, &sweeps, counts) {
+                        stop.store(true, Ordering::Relaxed);
+                        found.lock().expect("a report").get_or_insert(report);
+                    }
+                }
+            });
+        }
+    });
+    found.into_inner().expect("a report")
+}
+
+fn do_job(run: &Run, job: Job, sweeps: &[&[Call]], counts: &Counts) -> Result<(), String> {
+    match job {
+        Job::KnownCalls => known_calls(run, counts),
+        Job::KnownListings => known_listings(run, counts),
+        Job::TwoWays(family) => two_ways(run, family),
+        Job::Sweep(case) => compare_session(run, &format!("sweep {case}"), sweeps[case], counts),
+        Job::RandomSession(case) => {
+            let mut random = Random::of(run.seed, 1, case as u64);
+            let calls = calls::random_calls(&mut random, CALLS_IN_A_SESSION);
+            compare_session(run, &format!("session {case}"), &calls, counts)
+        }
+        Job::BrokenSession(case) => {
+            let mut random = Random::of(run.seed, 2, case as u64);
+            let mut calls = calls::random_calls(&mut random, 5);
+            calls.push(calls::broken_ending(&mut random));
+            compare_session(run, &format!("broken session {case}"), &calls, counts)
+        }
+        Job::Listings(job) => (0..LISTINGS_IN_A_JOB).try_for_each(|order| {
+            let case = job * LISTINGS_IN_A_JOB + order;
+            let input = streams::listing_input(&mut Random::of(run.seed, 3, case as u64));
+            compare_listing(
+                run,
+                &format!("listing {case}"),
+                "listing, packets cut anywhere",
+                &input,
+                counts,
+            )
+        }),
+        Job::FullListing(case) => {
+            let input = full_listing_input(case, &mut Random::of(run.seed, 4, case as u64));
+            compare_listing(
+                run,
+                &format!("full listing {case}"),
+                "listing of 65,536 packets",
+                &input,
+                counts,
+            )
+        }
+    }
+}
+
+/// 65,536 packets, or one fewer or more, and something or nothing behind them.
+fn full_listing_input(case: usize, random: &mut Random) -> Vec<u8> {
+    let (packets, tail): (usize, &[u8]) = match case % 6 {
+        0 => (65_536, b""),
+        1 => (65_536, b"S"),
+        2 => (65_537, b""),
+        3 => (65_535, b"SBR\x00\x01\x01"),
+        4 => (65_536, b"SBR\x00\x02\x01\x01\x00"),
+        _ => (65_536, b"\x00"),
+    };
+    streams::long_listing_input(random, packets, tail)
+}
+
+/// The model's readers of whole streams and of pieces agree.
+fn two_ways(run: &Run, family: usize) -> Result<(), String> {
+    (0..STREAMS_IN_TWO_WAYS).try_for_each(|case| {
+        let mut random = Random::of(run.seed, 5 + family as u64, case);
+        match two_ways::disagree(streams::FAMILIES[family], &mut random) {
+            None => Ok(()),
+            Some(report) => Err(format!(
+                "case {family} {case}, generator \"the model in two ways\"\n  {report}"
+            )),
+        }
+    })
+}
+
+// ---- sessions of probe ----
+
+/// The model on an input; a model that stops is no agreement.
+fn model_output(model: fn(&[u8]) -> Vec<u8>, input: &[u8]) -> Result<Vec<u8>, String> {
+    let input = input.to_vec();
+    catch_unwind(move || model(&input)).map_err(|_| "the model stopped".to_string())
+}
+
+/// The lists of an output; what is left where the last is not whole.
+fn results_of(mut output: &[u8]) -> (Vec<&[u8]>, &[u8]) {
+    let mut results = Vec::new();
+    while output.len() >= 2 {
+        let length = usize::from(output[0]) + 256 * usize::from(output[1]);
+        if output.len() < 2 + length {
+            break;
+        }
+        results.push(&output[2..2 + length]);
+        output = &output[2 + length..];
+    }
+    (results, output)
+}
+
+fn compare_session(run: &Run, case: &str, calls: &[Call], counts: &Counts) -> Result<(), String> {
+    let input: Vec<u8> = calls.iter().flat_map(|call| call.bytes.iter().copied()).collect();
+    let place = |call: usize| {
+        let generator = calls.get(call).map_or("beyond the last call", |call| call.generator);
+        format!("case {case} call {call}, generator \"{generator}\"")
+    };
+    let expected = model_output(run.model.session, &input)
+        .map_err(|wrong| model_stopped(run, case, calls, &wrong))?;
+    let given = run.probe.output(&input).map_err(|wrong| format!("{}: {wrong}", place(0)))?;
+    let ((expected, _), (given, rest)) = (results_of(&expected), results_of(&given));
+    let answered = calls.iter().filter(|call| call.generator != calls::ENDS_EARLY).count();
+    if expected.len() != answered {
+        return Err(format!("{}: the model has no result", place(expected.len())));
+    }
+    for call in 0..expected.len().max(given.len()) {
+        if expected.get(call) != given.get(call) {
+            let bytes = calls.get(call).map_or(&[][..], |call| &call.bytes);
+            let report = both_results(bytes, expected.get(call), given.get(call));
+            return Err(format!("{}\n{report}", place(call)));
+        }
+        counts.calls.fetch_add(1, Ordering::Relaxed);
+    }
+    if !rest.is_empty() {
+        return Err(format!("{}: an unfinished result: {}", place(given.len()), fields::hex(rest)));
+    }
+    Ok(())
+}
+
+/// Which call the model stopped at.
+fn model_stopped(run: &Run, case: &str, calls: &[Call], wrong: &str) -> String {
+    let stops = |call: &&Call| model_output(run.model.session, &call.bytes).is_err();
+    let generator = calls.iter().find(stops).map_or("", |call| call.generator);
+    format!("case {case}, generator \"{generator}\": {wrong}")
+}
+
+fn both_results(call: &[u8], expected: Option<&&[u8]>, given: Option<&&[u8]>) -> String {
+    let op = call.first().copied().unwrap_or(0);
+    let words = |result: Option<&&[u8]>| match result {
+        Some(result) => fields::in_words(op, result),
+        None => "no result".to_string(),
+    };
+    let (model, program) = (words(expected), words(given));
+    let mut report =
+        format!("  call: {}\n  model: {model}\n  program: {program}", fields::hex(call));
+    if let (Some(expected), Some(given)) = (expected, given) {
+        let same =
+            expected.iter().zip(given.iter()).take_while(|(one, other)| one == other).count();
+        report.push_str(&format!("\n  first difference at byte {same} of the result"));
+    }
+    report
+}
+
+fn known_calls(run: &Run, counts: &Counts) -> Result<(), String> {
+    for known in known::calls() {
+        let expected = right::probe::as_list(&known.result);
+        let sides = [
+            ("model", model_output(run.model.session, &known.call)),
+            ("program", run.probe.output(&known.call)),
+        ];
+        for (side, given) in sides {
+            if given.as_ref() != Ok(&expected) {
+                let given = given.map_or_else(|wrong| wrong, |given| fields::hex(&given));
+                let (name, call, expected) =
+                    (known.name, fields::hex(&known.call), fields::hex(&expected));
+                return Err(format!(
+                    "case {name}, generator \"numbers of the paper\"\n  call: {call}\n  paper: {expected}\n  {side}: {given}"
+                ));
+            }
+        }
+        counts.calls.fetch_add(1, Ordering::Relaxed);
+    }
+    Ok(())
+}
+
+// ---- listings ----
+
+fn compare_listing(
+    run: &Run,
+    case: &str,
+    generator: &str,
+    input: &[u8],
+    counts: &Counts,
+) -> Result<(), String> {
+    let place = format!("case {case}, generator \"{generator}\"");
+    let expected =
+        model_output(run.model.listing, input).map_err(|wrong| format!("{place}: {wrong}"))?;
+    let given = run.sbrlist.output(input).map_err(|wrong| format!("{place}: {wrong}"))?;
+    if expected != given {
+        return Err(format!("{place}\n{}", both_listings(input, &expected, &given)));
+    }
+    counts.listings.fetch_add(1, Ordering::Relaxed);
+    Ok(())
+}
+
+const MOST_INPUT_SHOWN: usize = 6000;
+
+fn both_listings(input: &[u8], expected: &[u8], given: &[u8]) -> String {
+    let shown = &input[..input.len().min(MOST_INPUT_SHOWN)];
+    let (model, program) = (String::from_utf8_lossy(expected), String::from_utf8_lossy(given));
+    let (model, program): (Vec<&str>, Vec<&str>) =
+        (model.split_inclusive('\n').collect(), program.split_inclusive('\n').collect());
+    let line = model.iter().zip(&program).take_while(|(one, other)| one == other).count();
+    let (model, program) = (model.get(line), program.get(line));
+    format!(
+        "  input of {} bytes: {}\n  first difference in line {}\n  model: {model:?}\n  program: {program:?}",
+        input.len(), fields::hex(shown), line + 1
+    )
+}
+
+fn known_listings(run: &Run, counts: &Counts) -> Result<(), String> {
+    for known in known::listings() {
+        let sides = [
+            ("model", model_output(run.model.listing, &known.input)),
+            ("program", run.sbrlist.output(&known.input)),
+        ];
+        for (side, given) in sides {
+            if given.as_deref() != Ok(known.output.as_bytes()) {
+                let given = given.map_or_else(
+                    |wrong| wrong,
+                    |given| String::from_utf8_lossy(&given).into_owned(),
+                );
+                let (name, input) = (known.name, fields::hex(&known.input));
+                return Err(format!(
+                    "case {name}, generator \"listings of the paper\"\n  input: {input}\n  paper: {:?}\n  {side}: {given:?}",
+                    known.output
+                ));
+            }
+        }
+        counts.listings.fetch_add(1, Ordering::Relaxed);
+    }
+    Ok(())
+}

@@ -1,0 +1,144 @@
+//! The numbers the paper prints: P1 to P12, L1, and published examples of 000, with their
+//! answers written out.
+
+pub struct KnownCall {
+    pub name: &'static str,
+    pub call: Vec<u8>,
+    /// How the result begins.
+    pub result: Vec<u8>,
+}
+
+pub struct KnownListing {
+    pub name: &'static str,
+    pub input: Vec<u8>,
+    pub output: &'static str,
+}
+
+fn bytes(hex: &str) -> Vec<u8> {
+    hex.split_whitespace().map(|byte| u8::from_str_radix(byte, 16).expect("hex")).collect()
+}
+
+fn known(name: &'static str, call: &str, result: &str) -> KnownCall {
+    KnownCall { name, call: bytes(call), result: bytes(result) }
+}
+
+/// Calls whose results are known to the last byte.
+pub fn calls() -> Vec<KnownCall> {
+    vec![
+        known("P1, state", "71 08 00 FF 03 00 02 11 FF 00 15", "00 86 6E"),
+        known("P1, sent", "73 86 6E", "00 79 91"),
+        known(
+            "P1, frame",
+            "11 02 00 FF 11 15 00 00 0C 00 00 00 00 00 00 00 00 00 00 00 00 00",
+            "00 0C 00 0C 00 7E FF 03 00 02 11 FF 00 15 79 91 7E",
+        ),
+        known(
+            "P3",
+            "31 00 0B 00 00 00 00 00 00 00 00 00 00 00 00",
+            "00 0B 00 0B 00 AA 55 01 00 00 00 10 00 00 10 01",
+        ),
+        known(
+            "P4",
+            "13 00 00 01 00 00 08 00 00 00 00 00 00 00 00 00",
+            "00 08 00 08 00 80 80 80 00 00 00 01 01",
+        ),
+        known(
+            "P5, frame",
+            "13 01 01 10 03 00 04 D2 00 0B 00 00 00 00 00 00 00 00 00 00 00 00",
+            "00 0B 00 0B 00 80 80 80 03 01 01 10 04 D2 00 EB",
+        ),
+        known("P5, 1,234 W", "42 01 10 03 00 04 D2 00", "00 01 00 00 00 00 00 48 93 40"),
+        known("P6", "41 00 03 00 04 D2 FD", "00 D2 04 00 00 00 00 00 00"),
+        known("P7", "41 00 03 00 FF FF 0A", "00 00 60 8D 51 5A 45 18 09"),
+        known("P8, signed", "41 01 03 00 80 00 00", "00 00 00 0C FE FF FF FF FF"),
+        known("P8, unsigned", "41 00 03 00 80 00 00", "00 00 00 F4 01 00 00 00 00"),
+        known("P9, 0B", "41 00 03 00 00 01 0B", "0F 00 00 00 00 00 00 00 00"),
+        known("P9, FC", "41 00 03 00 00 01 FC", "10 00 00 00 00 00 00 00 00"),
+        known("P10, 1", "35 E8 03 00 00 00 00 00 00 01", "00 00 00 00 00 00 00 00 00"),
+        known("P10, 2", "35 E8 03 00 00 00 00 00 00 02", "00 0A 00 00 00 00 00 00 00"),
+        known("P10, 3", "35 E8 03 00 00 00 00 00 00 03", "00 06 00 00 00 00 00 00 00"),
+        known("P10, 4", "35 E8 03 00 00 00 00 00 00 04", "00 04 00 00 00 00 00 00 00"),
+        known("11 FF", "22 FF 11", "00 01 01 FF"),
+        known(
+            "000, ping request to (1, 2, 3)",
+            "11 02 00 03 12 15 00 00 0C 00 00 00 00 00 00 00 00 00 00 00 00 00",
+            "00 0C 00 0C 00 7E FF 03 00 02 12 03 00 15 23 9D 7E",
+        ),
+    ]
+}
+
+fn packet(port: u8, line: &str) -> Vec<u8> {
+    let line = bytes(line);
+    let mut packet = b"SBR\x00\x01".to_vec();
+    packet.extend([port, line.len() as u8]);
+    packet.extend(line);
+    packet
+}
+
+fn listing(name: &'static str, packets: &[(u8, &str)], output: &'static str) -> KnownListing {
+    let input = packets.iter().flat_map(|&(port, line)| packet(port, line)).collect();
+    KnownListing { name, input, output }
+}
+
+/// Inputs whose whole output is known.
+pub fn listings() -> Vec<KnownListing> {
+    vec![
+        listing("empty input", &[], "port answer from to code data\nend 0 0\n"),
+        listing(
+            "L1",
+            &[(1, "7E FF 03 00 02 11 FF 00 15 79 91 7E")],
+            "port answer from to code data\n1 1 0002 11FF 15 -\nend 1 0\n",
+        ),
+        listing(
+            "000, ping reply of (1, 2, 3)",
+            &[(1, "7E FF 03 12 03 00 02 00 95 82 F8 7E")],
+            "port answer from to code data\n1 1 1203 0002 95 -\nend 1 0\n",
+        ),
+        listing(
+            "P2, cut inside a pair",
+            &[(1, "7E FF 03 00 02 11 FF 02 15 7D"), (1, "5E 7D 5D"), (1, "5B 56 7E")],
+            "port answer from to code data\n1 1 0002 11FF 15 7E7D\nend 1 0\n",
+        ),
+        listing(
+            "000, byte stuffing",
+            &[(1, "7E FF 03 00 02 7D 5D 7D 5E 00 15 99 C9 7E")],
+            "port answer from to code data\n1 1 0002 7D7E 15 -\nend 1 0\n",
+        ),
+        listing(
+            "000, network scan",
+            &[(1, "7E FF 03 EE FE 1F FF 00 15 1C 6C 7E 7E FF 03 11 04 EE FE 00 95 7C F7 7E 7E FF 03 EE FE 10 FF 00 15 E5 DE 7E")],
+            "port answer from to code data\n1 1 EEFE 1FFF 15 -\n1 1 1104 EEFE 95 -\n1 1 EEFE 10FF 15 -\nend 3 0\n",
+        ),
+        listing(
+            "a pair broken by the flag",
+            &[(1, "7E 7D 7E 7D"), (1, "7E"), (1, "7E")],
+            "port answer from to code data\n1 2\n1 2\nend 0 2\n",
+        ),
+        listing(
+            "P3, read",
+            &[(2, "AA 55 01 00 00 00 10 00 00 10 01")],
+            "port answer from to code data\n2 1 0100 0000 1000 -\nend 1 0\n",
+        ),
+        listing(
+            "P5, read",
+            &[(3, "80 80 80 03 01 01 10 04 D2 00 EB")],
+            "port answer from to code data\n3 1 - 0101 10 04D200\nend 1 0\n",
+        ),
+        listing("P11", &[(1, "7E 7E 7E")], "port answer from to code data\nend 0 0\n"),
+        listing(
+            "P12",
+            &[(3, "80 80 80 80 80 00 00 00 01 01")],
+            "port answer from to code data\n3 1 - 0000 01 -\nend 1 0\n",
+        ),
+        listing(
+            "AA AA 55",
+            &[(2, "AA AA 55 01 00 00 00 10 00 00 10 01")],
+            "port answer from to code data\n2 1 0100 0000 1000 -\nend 1 0\n",
+        ),
+        listing(
+            "two frames, one flag between",
+            &[(1, "7E FF 03 00 02 11 FF 00 15 79 91 7E FF 03 00 02 11 FF 00 15 79 91 7E")],
+            "port answer from to code data\n1 1 0002 11FF 15 -\n1 1 0002 11FF 15 -\nend 2 0\n",
+        ),
+    ]
+}

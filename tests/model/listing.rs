@@ -1,0 +1,147 @@
+//! The listing program `sbrlist`: its whole output for a whole input.
+
+use crate::number;
+use crate::packet;
+use crate::{comlynx, eversolar, fronius, Event, Outcome};
+
+const HEADER: &str = "port answer from to code data\n";
+const MOST_PACKETS: usize = 65_536;
+
+/// The packets taken, and the number of the refusal that stops the listing, if one does.
+struct Intake {
+    packets: Vec<Taken>,
+    streams: [Vec<u8>; 3],
+    stop: Option<u8>,
+}
+
+/// A packet: its port, and how many bytes its port has had once it has been read.
+struct Taken {
+    port: usize,
+    bytes_so_far: usize,
+}
+
+/// A line of a port, and how many of the port's bytes it took to settle it.
+struct Line {
+    end: usize,
+    is_message: bool,
+    text: String,
+}
+
+/// "prints a header, one line for each message or damage, and an end line with both counts in
+/// decimal." "A refused packet, or 19, prints `stop` and its number before the end line."
+pub fn listing(input: &[u8]) -> Vec<u8> {
+    let intake = take_in(input);
+    let lines = lines_in_order(&intake);
+    let messages = lines.iter().filter(|line| line.is_message).count();
+    let damages = lines.len() - messages;
+    let mut output = String::from(HEADER);
+    for line in &lines {
+        output.push_str(&line.text);
+    }
+    if let Some(refusal) = intake.stop {
+        output.push_str(&format!("stop {refusal}\n"));
+    }
+    output.push_str(&format!("end {messages} {damages}\n"));
+    output.into_bytes()
+}
+
+/// Packet after packet. "Input that ends where a packet would begin is no refusal".
+fn take_in(input: &[u8]) -> Intake {
+    let mut intake = Intake { packets: vec![], streams: Default::default(), stop: None };
+    let mut rest = input;
+    while !rest.is_empty() {
+        match next_packet(rest, intake.packets.len()) {
+            Err(refusal) => {
+                intake.stop = Some(refusal);
+                break;
+            }
+            Ok(packet) => {
+                let line_bytes = &rest[packet.used - usize::from(packet.count)..packet.used];
+                add_packet(&mut intake, usize::from(packet.port), line_bytes);
+                rest = &rest[packet.used..];
+            }
+        }
+    }
+    intake
+}
+
+/// 19: "`sbrlist` has read 65,536 packets and more input follows".
+fn next_packet(rest: &[u8], packets_before: usize) -> Result<packet::Packet, u8> {
+    if packets_before == MOST_PACKETS {
+        return Err(number::TOO_MANY_PACKETS);
+    }
+    packet::read(rest)
+}
+
+fn add_packet(intake: &mut Intake, port: usize, line_bytes: &[u8]) {
+    let stream = &mut intake.streams[port - 1];
+    stream.extend(line_bytes);
+    intake.packets.push(Taken { port, bytes_so_far: stream.len() });
+}
+
+/// A packet's lines come when the packet has been read: those of its port that its bytes settle.
+fn lines_in_order(intake: &Intake) -> Vec<Line> {
+    let mut of_ports = lines_of_ports(&intake.streams).map(|lines| lines.into_iter().peekable());
+    let mut in_order = Vec::new();
+    for packet in &intake.packets {
+        let lines = &mut of_ports[packet.port - 1];
+        while let Some(line) = lines.next_if(|line| line.end <= packet.bytes_so_far) {
+            in_order.push(line);
+        }
+    }
+    in_order
+}
+
+/// "keeps one reader a port from packet to packet". The families stand in the paper's order:
+/// ComLynx on port 1 (case L1), Eversolar on 2, Fronius on 3, each over all bytes of its port.
+fn lines_of_ports(streams: &[Vec<u8>; 3]) -> [Vec<Line>; 3] {
+    [
+        lines_of(1, comlynx::events(&streams[0]), comlynx_fields),
+        lines_of(2, eversolar::events(&streams[1]), eversolar_fields),
+        lines_of(3, fronius::events(&streams[2]), fronius_fields),
+    ]
+}
+
+fn lines_of<M>(port: u8, events: Vec<Event<M>>, fields: fn(&M) -> String) -> Vec<Line> {
+    events.into_iter().map(|event| line_of(port, event.end, event.outcome, fields)).collect()
+}
+
+fn line_of<M>(port: u8, end: usize, outcome: Outcome<M>, fields: fn(&M) -> String) -> Line {
+    match outcome {
+        Ok(message) => {
+            Line { end, is_message: true, text: format!("{port} 1 {}\n", fields(&message)) }
+        }
+        // "A damage line is port and number."
+        Err(damage) => Line { end, is_message: false, text: format!("{port} {damage}\n") },
+    }
+}
+
+fn comlynx_fields(message: &comlynx::Message) -> String {
+    let (from, to) = (message.source, message.destination);
+    format!("{from:04X} {to:04X} {:02X} {}", message.kind, data_field(&message.data))
+}
+
+/// "Eversolar's code is control and function".
+fn eversolar_fields(message: &eversolar::Message) -> String {
+    let (from, to) = (hex(&message.source), hex(&message.destination));
+    let code = hex(&[message.control, message.function]);
+    format!("{from} {to} {code} {}", data_field(&message.data))
+}
+
+/// "Fronius has `-` for from, and device with number for to."
+fn fronius_fields(message: &fronius::Message) -> String {
+    let to = hex(&[message.device, message.number]);
+    format!("- {to} {:02X} {}", message.command, data_field(&message.data))
+}
+
+/// "Hex is upper case; no data prints `-`."
+fn data_field(data: &[u8]) -> String {
+    if data.is_empty() {
+        return "-".to_string();
+    }
+    hex(data)
+}
+
+fn hex(bytes: &[u8]) -> String {
+    bytes.iter().map(|byte| format!("{byte:02X}")).collect()
+}

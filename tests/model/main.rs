@@ -1,0 +1,8 @@
+//! The driver with the model it compares.
+
+use std::process::ExitCode;
+
+fn main() -> ExitCode {
+    let model = drive::Model { session: paper::probe::session, listing: paper::listing::listing };
+    drive::run(model, std::env::args().skip(1))
+}

@@ -1,0 +1,65 @@
+//! "The uplink packet".
+
+use crate::number;
+use crate::{hand_over, not_written, Written};
+
+/// "Mark `SBR`, version 00 01 (high byte first)".
+const MARK: [u8; 3] = *b"SBR";
+const VERSION: [u8; 2] = [0x00, 0x01];
+const HEAD: usize = 7;
+
+pub struct Packet {
+    pub port: u8,
+    pub count: u8,
+    pub used: usize,
+}
+
+/// "Tests: fewer than 7 bytes 13; mark 10; version 11; port or count 12; bytes missing 13.
+/// What follows belongs to the next packet."
+pub fn read(bytes: &[u8]) -> Result<Packet, u8> {
+    if bytes.len() < HEAD {
+        return Err(number::BYTES_MISSING);
+    }
+    if bytes[..3] != MARK {
+        return Err(number::PACKET_MARK);
+    }
+    if bytes[3..5] != VERSION {
+        return Err(number::PACKET_VERSION);
+    }
+    let (port, count) = (bytes[5], bytes[6]);
+    if !is_a_port(port) || !is_a_count(usize::from(count)) {
+        return Err(number::PORT_OR_COUNT);
+    }
+    // "bytes used (7 plus count)".
+    let used = HEAD + usize::from(count);
+    if bytes.len() < used {
+        return Err(number::BYTES_MISSING);
+    }
+    Ok(Packet { port, count, used })
+}
+
+/// "port 1 to 3".
+fn is_a_port(port: u8) -> bool {
+    (1..=3).contains(&port)
+}
+
+/// "count 1 to 240".
+fn is_a_count(count: usize) -> bool {
+    (1..=240).contains(&count)
+}
+
+/// "the packet writer 12, then 9".
+pub fn write(port: u8, line: &[u8], lent: &mut [u8]) -> Written {
+    if !is_a_port(port) || !is_a_count(line.len()) {
+        return not_written(number::PORT_OR_COUNT);
+    }
+    hand_over(&packet(port, line), lent)
+}
+
+pub fn packet(port: u8, line: &[u8]) -> Vec<u8> {
+    let mut packet = MARK.to_vec();
+    packet.extend(VERSION);
+    packet.extend([port, line.len() as u8]);
+    packet.extend(line);
+    packet
+}

@@ -1,0 +1,428 @@
+//! The protocol of `probe`: calls in, results out, each made by the model.
+
+use crate::number;
+use crate::{checksum, comlynx, eversolar, fronius, packet, roster, Written};
+
+/// "A list is W (its length, at most 8,192) and that many bytes."
+const LONGEST_LIST: usize = 8192;
+
+/// "`probe` reads calls from standard input, makes each, and writes its result to standard
+/// output, call after call, until the input ends. A call whose bytes are not all there, an opcode
+/// that is not listed, or a list longer than it may be, ends it: it writes nothing more."
+pub fn session(input: &[u8]) -> Vec<u8> {
+    let mut output = Vec::new();
+    let mut calls = Arguments { rest: input };
+    while let Some(result) = next_result(&mut calls) {
+        output.extend(as_list(&result));
+    }
+    output
+}
+
+/// The result of the first call, without the length before it.
+pub fn answer(call: &[u8]) -> Option<Vec<u8>> {
+    next_result(&mut Arguments { rest: call })
+}
+
+/// A list is its length in two bytes, low byte first, and that many bytes.
+pub fn as_list(bytes: &[u8]) -> Vec<u8> {
+    let mut list = (bytes.len() as u16).to_le_bytes().to_vec();
+    list.extend(bytes);
+    list
+}
+
+/// What is left of the input.
+struct Arguments<'a> {
+    rest: &'a [u8],
+}
+
+impl<'a> Arguments<'a> {
+    fn bytes(&mut self, count: usize) -> Option<&'a [u8]> {
+        let (bytes, rest) = self.rest.split_at_checked(count)?;
+        self.rest = rest;
+        Some(bytes)
+    }
+
+    fn number(&mut self, bytes: usize) -> Option<u64> {
+        let low_first = self.bytes(bytes)?;
+        Some(low_first.iter().rev().fold(0, |number, &byte| number * 256 + u64::from(byte)))
+    }
+
+    fn byte(&mut self) -> Option<u8> {
+        self.number(1).map(|number| number as u8)
+    }
+
+    fn word(&mut self) -> Option<u16> {
+        self.number(2).map(|number| number as u16)
+    }
+
+    fn pair(&mut self) -> Option<[u8; 2]> {
+        Some([self.byte()?, self.byte()?])
+    }
+
+    fn list(&mut self) -> Option<&'a [u8]> {
+        let length = usize::from(self.word()?);
+        if length > LONGEST_LIST {
+            return None;
+        }
+        self.bytes(length)
+    }
+
+    fn lent(&mut self) -> Option<Vec<u8>> {
+        self.list().map(<[u8]>::to_vec)
+    }
+}
+
+/// A result that grows field after field, beginning with the answer number.
+struct Answer {
+    bytes: Vec<u8>,
+}
+
+impl Answer {
+    fn of(number: u8) -> Answer {
+        Answer { bytes: vec![number] }
+    }
+
+    fn byte(self, byte: u8) -> Answer {
+        self.bytes(&[byte])
+    }
+
+    fn word(self, word: u16) -> Answer {
+        self.bytes(&word.to_le_bytes())
+    }
+
+    fn bytes(mut self, bytes: &[u8]) -> Answer {
+        self.bytes.extend(bytes);
+        self
+    }
+
+    fn list(self, bytes: &[u8]) -> Answer {
+        self.bytes(&as_list(bytes))
+    }
+}
+
+fn next_result(calls: &mut Arguments) -> Option<Vec<u8>> {
+    let answer = match calls.byte()? {
+        0x01 => read_comlynx(calls),
+        0x02 => read_eversolar(calls),
+        0x03 => read_fronius(calls),
+        0x04 => Some(put_comlynx_state(Answer::of(number::DONE), &comlynx::fresh())),
+        0x05 => Some(put_eversolar_state(Answer::of(number::DONE), &eversolar::fresh())),
+        0x06 => Some(put_fronius_state(Answer::of(number::DONE), &fronius::fresh())),
+        0x11 => write_comlynx(calls),
+        0x12 => write_eversolar(calls),
+        0x13 => write_fronius(calls),
+        0x21 => meaning(calls),
+        0x22 => address_of_a_word(calls),
+        0x23 => word_of_an_address(calls),
+        0x31 => request_to_all(calls),
+        0x32 => request_to_one(calls),
+        0x33 => give_an_address(calls),
+        0x34 => total_energy(calls),
+        0x35 => wait(calls),
+        0x41 => measured_value(calls),
+        0x42 => reading(calls),
+        0x51 => roster_give(calls, over_bytes),
+        0x52 => roster_remove(calls, over_bytes),
+        0x53 => roster_find(calls, over_bytes),
+        0x54 => roster_give(calls, over_structs),
+        0x55 => roster_remove(calls, over_structs),
+        0x56 => roster_find(calls, over_structs),
+        0x61 => read_packet(calls),
+        0x62 => write_packet(calls),
+        0x71 => checksum_over(calls),
+        0x72 => checksum_going_on(calls),
+        0x73 => checksum_sent(calls),
+        0x74 => checksum_over_the_first(calls),
+        _ => None,
+    };
+    answer.map(|answer| answer.bytes)
+}
+
+// ---- readers ----
+
+fn read_comlynx(calls: &mut Arguments) -> Option<Answer> {
+    let held = calls.bytes(comlynx::LONGEST_BODY)?.to_vec();
+    let mut state = comlynx::State { held, stage: calls.byte()?, count: calls.word()? };
+    let (piece, mut lent) = (calls.list()?, calls.lent()?);
+    let reading = comlynx::read(&mut state, piece, &mut lent);
+    let answer = Answer::of(reading.number).word(reading.used as u16);
+    let answer = match reading.message {
+        Some(message) => answer
+            .word(message.source)
+            .word(message.destination)
+            .byte(message.kind)
+            .word(message.data.len() as u16),
+        None => answer.bytes(&[0; 7]),
+    };
+    Some(put_comlynx_state(answer, &state).list(&lent))
+}
+
+fn put_comlynx_state(answer: Answer, state: &comlynx::State) -> Answer {
+    answer.bytes(&state.held).byte(state.stage).word(state.count)
+}
+
+fn read_eversolar(calls: &mut Arguments) -> Option<Answer> {
+    let held = calls.bytes(eversolar::MOST_HELD)?.to_vec();
+    let (stage, count, length) = (calls.byte()?, calls.word()?, calls.word()?);
+    let mut state = eversolar::State { held, stage, count, length };
+    let (piece, mut lent) = (calls.list()?, calls.lent()?);
+    let reading = eversolar::read(&mut state, piece, &mut lent);
+    let answer = Answer::of(reading.number).word(reading.used as u16);
+    let answer = match reading.message {
+        Some(message) => answer
+            .bytes(&message.source)
+            .bytes(&message.destination)
+            .byte(message.control)
+            .byte(message.function)
+            .word(message.data.len() as u16),
+        None => answer.bytes(&[0; 8]),
+    };
+    Some(put_eversolar_state(answer, &state).list(&lent))
+}
+
+fn put_eversolar_state(answer: Answer, state: &eversolar::State) -> Answer {
+    answer.bytes(&state.held).byte(state.stage).word(state.count).word(state.length)
+}
+
+fn read_fronius(calls: &mut Arguments) -> Option<Answer> {
+    let held = calls.bytes(fronius::MOST_HELD)?.to_vec();
+    let (stage, count, length) = (calls.byte()?, calls.word()?, calls.word()?);
+    let mut state = fronius::State { held, stage, count, length };
+    let (piece, mut lent) = (calls.list()?, calls.lent()?);
+    let reading = fronius::read(&mut state, piece, &mut lent);
+    let answer = Answer::of(reading.number).word(reading.used as u16);
+    let answer = match reading.message {
+        Some(message) => answer
+            .byte(message.device)
+            .byte(message.number)
+            .byte(message.command)
+            .word(message.data.len() as u16),
+        None => answer.bytes(&[0; 5]),
+    };
+    Some(put_fronius_state(answer, &state).list(&lent))
+}
+
+fn put_fronius_state(answer: Answer, state: &fronius::State) -> Answer {
+    answer.bytes(&state.held).byte(state.stage).word(state.count).word(state.length)
+}
+
+// ---- writers ----
+
+fn put_written(written: &Written, lent: &[u8]) -> Answer {
+    Answer::of(written.number).word(written.length as u16).list(lent)
+}
+
+fn write_comlynx(calls: &mut Arguments) -> Option<Answer> {
+    let message = comlynx::Message {
+        source: calls.word()?,
+        destination: calls.word()?,
+        kind: calls.byte()?,
+        data: calls.list()?.to_vec(),
+    };
+    let mut lent = calls.lent()?;
+    let written = comlynx::write(&message, &mut lent);
+    Some(put_written(&written, &lent))
+}
+
+fn write_eversolar(calls: &mut Arguments) -> Option<Answer> {
+    let message = eversolar::Message {
+        source: calls.pair()?,
+        destination: calls.pair()?,
+        control: calls.byte()?,
+        function: calls.byte()?,
+        data: calls.list()?.to_vec(),
+    };
+    let mut lent = calls.lent()?;
+    let written = eversolar::write(&message, &mut lent);
+    Some(put_written(&written, &lent))
+}
+
+fn write_fronius(calls: &mut Arguments) -> Option<Answer> {
+    let message = fronius::Message {
+        device: calls.byte()?,
+        number: calls.byte()?,
+        command: calls.byte()?,
+        data: calls.list()?.to_vec(),
+    };
+    let mut lent = calls.lent()?;
+    let written = fronius::write(&message, &mut lent);
+    Some(put_written(&written, &lent))
+}
+
+// ---- ComLynx meaning and addresses ----
+
+fn meaning(calls: &mut Arguments) -> Option<Answer> {
+    let (kind, data) = (calls.byte()?, calls.list()?);
+    Some(match comlynx::meaning(kind, data) {
+        Ok(meaning) => {
+            Answer::of(number::DONE).byte(meaning.kind).byte(meaning.id).byte(meaning.code)
+        }
+        Err(refusal) => Answer::of(refusal).bytes(&[0; 3]),
+    })
+}
+
+fn address_of_a_word(calls: &mut Arguments) -> Option<Answer> {
+    let word = calls.word()?;
+    Some(Answer::of(number::DONE).bytes(&comlynx::address_of(word)))
+}
+
+fn word_of_an_address(calls: &mut Arguments) -> Option<Answer> {
+    let (network, subnet, node) = (calls.byte()?, calls.byte()?, calls.byte()?);
+    Some(match comlynx::word_of(network, subnet, node) {
+        Ok(word) => Answer::of(number::DONE).word(word),
+        Err(refusal) => Answer::of(refusal).word(0),
+    })
+}
+
+// ---- Eversolar requests, energy, waits ----
+
+fn request_to_all(calls: &mut Arguments) -> Option<Answer> {
+    let (which, mut lent) = (calls.byte()?, calls.lent()?);
+    let written = eversolar::request_to_all(which, &mut lent);
+    Some(put_written(&written, &lent))
+}
+
+fn request_to_one(calls: &mut Arguments) -> Option<Answer> {
+    let (which, address, mut lent) = (calls.byte()?, calls.byte()?, calls.lent()?);
+    let written = eversolar::request_to_one(which, address, &mut lent);
+    Some(put_written(&written, &lent))
+}
+
+fn give_an_address(calls: &mut Arguments) -> Option<Answer> {
+    let (serial, address, mut lent) = (calls.list()?, calls.byte()?, calls.lent()?);
+    let written = eversolar::give_an_address(serial, address, &mut lent);
+    Some(put_written(&written, &lent))
+}
+
+fn total_energy(calls: &mut Arguments) -> Option<Answer> {
+    let (control, function, data) = (calls.byte()?, calls.byte()?, calls.list()?);
+    Some(match eversolar::total_energy(control, function, data) {
+        Ok(tenths) => Answer::of(number::DONE).bytes(&tenths.to_le_bytes()),
+        Err(refusal) => Answer::of(refusal).bytes(&[0; 4]),
+    })
+}
+
+fn wait(calls: &mut Arguments) -> Option<Answer> {
+    let (serial, attempt) = (calls.number(8)?, calls.byte()?);
+    Some(match eversolar::wait(serial, attempt) {
+        Ok(units) => Answer::of(number::DONE).bytes(&units.to_le_bytes()),
+        Err(refusal) => Answer::of(refusal).bytes(&[0; 8]),
+    })
+}
+
+// ---- Fronius values ----
+
+fn measured_value(calls: &mut Arguments) -> Option<Answer> {
+    let (signed, data) = (calls.byte()?, calls.list()?);
+    Some(match fronius::thousandths(signed == 1, data) {
+        Ok(thousandths) => Answer::of(number::DONE).bytes(&thousandths.to_le_bytes()),
+        Err(refusal) => Answer::of(refusal).bytes(&[0; 8]),
+    })
+}
+
+fn reading(calls: &mut Arguments) -> Option<Answer> {
+    let (device, command, data) = (calls.byte()?, calls.byte()?, calls.list()?);
+    Some(match fronius::reading(device, command, data) {
+        Ok(reading) => Answer::of(number::DONE)
+            .byte(reading.kind)
+            .bytes(&reading.double.to_bits().to_le_bytes()),
+        Err(refusal) => Answer::of(refusal).bytes(&[0; 9]),
+    })
+}
+
+// ---- roster ----
+
+/// The places of the list handed over, or nothing where it is no roster by its size; and the
+/// bytes to hand back where nothing changes.
+type Cutting = fn(&[u8]) -> (Option<Vec<Vec<u8>>>, Vec<u8>);
+
+fn over_bytes(list: &[u8]) -> (Option<Vec<Vec<u8>>>, Vec<u8>) {
+    (roster::places_of(list), list.to_vec())
+}
+
+/// "the list is cut into places of 17 bytes; the number of places is the list's length by 17,
+/// and a rest is dropped".
+fn over_structs(list: &[u8]) -> (Option<Vec<Vec<u8>>>, Vec<u8>) {
+    let places = roster::cut_into_places(list);
+    let bytes = roster::bytes_of(&places);
+    (Some(places), bytes)
+}
+
+fn roster_give(calls: &mut Arguments, cut: Cutting) -> Option<Answer> {
+    let (list, serial) = (calls.list()?, calls.list()?);
+    let (places, unchanged) = cut(list);
+    let Some(mut places) = places else {
+        return Some(Answer::of(number::SPOILT).byte(0).list(&unchanged));
+    };
+    let (number, address) = number_and_address(roster::give(&mut places, serial));
+    Some(Answer::of(number).byte(address).list(&roster::bytes_of(&places)))
+}
+
+fn roster_remove(calls: &mut Arguments, cut: Cutting) -> Option<Answer> {
+    let (list, address) = (calls.list()?, calls.byte()?);
+    let (places, unchanged) = cut(list);
+    let Some(mut places) = places else {
+        return Some(Answer::of(number::SPOILT).list(&unchanged));
+    };
+    let number = match roster::remove(&mut places, address) {
+        Ok(()) => number::DONE,
+        Err(refusal) => refusal,
+    };
+    Some(Answer::of(number).list(&roster::bytes_of(&places)))
+}
+
+fn roster_find(calls: &mut Arguments, cut: Cutting) -> Option<Answer> {
+    let (list, serial) = (calls.list()?, calls.list()?);
+    let (places, unchanged) = cut(list);
+    let Some(places) = places else {
+        return Some(Answer::of(number::SPOILT).byte(0).list(&unchanged));
+    };
+    let (number, address) = number_and_address(roster::find(&places, serial));
+    Some(Answer::of(number).byte(address).list(&roster::bytes_of(&places)))
+}
+
+fn number_and_address(given: Result<u8, u8>) -> (u8, u8) {
+    match given {
+        Ok(address) => (number::DONE, address),
+        Err(refusal) => (refusal, 0),
+    }
+}
+
+// ---- packet and checksum ----
+
+fn read_packet(calls: &mut Arguments) -> Option<Answer> {
+    let list = calls.list()?;
+    Some(match packet::read(list) {
+        Ok(packet) => {
+            Answer::of(number::DONE).byte(packet.port).byte(packet.count).word(packet.used as u16)
+        }
+        Err(refusal) => Answer::of(refusal).bytes(&[0; 4]),
+    })
+}
+
+fn write_packet(calls: &mut Arguments) -> Option<Answer> {
+    let (port, line, mut lent) = (calls.byte()?, calls.list()?, calls.lent()?);
+    let written = packet::write(port, line, &mut lent);
+    Some(put_written(&written, &lent))
+}
+
+fn checksum_over(calls: &mut Arguments) -> Option<Answer> {
+    let list = calls.list()?;
+    Some(Answer::of(number::DONE).word(checksum::over(list)))
+}
+
+fn checksum_going_on(calls: &mut Arguments) -> Option<Answer> {
+    let (state, list) = (calls.word()?, calls.list()?);
+    Some(Answer::of(number::DONE).word(checksum::going_on(state, list)))
+}
+
+fn checksum_sent(calls: &mut Arguments) -> Option<Answer> {
+    let state = calls.word()?;
+    Some(Answer::of(number::DONE).bytes(&checksum::sent(state)))
+}
+
+fn checksum_over_the_first(calls: &mut Arguments) -> Option<Answer> {
+    let (count, list) = (calls.word()?, calls.list()?);
+    let first = usize::from(count).min(list.len());
+    Some(Answer::of(number::DONE).word(checksum::over(&list[..first])))
+}

@@ -1,0 +1,344 @@
+//! Streams of the three families, rich in special bytes and limits, and whole inputs of the
+//! listing program made of them.
+
+use crate::random::Random;
+use right::{comlynx, eversolar, fronius, packet};
+
+#[derive(Clone, Copy, PartialEq)]
+pub enum Family {
+    ComLynx,
+    Eversolar,
+    Fronius,
+}
+
+pub const FAMILIES: [Family; 3] = [Family::ComLynx, Family::Eversolar, Family::Fronius];
+
+impl Family {
+    pub fn most_data(self) -> usize {
+        match self {
+            Family::Fronius => fronius::MOST_DATA,
+            _ => comlynx::MOST_DATA,
+        }
+    }
+
+    fn opening(self) -> u8 {
+        match self {
+            Family::ComLynx => comlynx::FLAG,
+            Family::Eversolar => eversolar::HEADER[0],
+            Family::Fronius => fronius::START,
+        }
+    }
+}
+
+/// Parts one after another, until there are `least` bytes.
+pub fn stream(family: Family, random: &mut Random, least: usize) -> Vec<u8> {
+    let mut stream = Vec::new();
+    while stream.len() < least {
+        stream.extend(part(family, random));
+    }
+    stream
+}
+
+fn part(family: Family, random: &mut Random) -> Vec<u8> {
+    match random.below(12) {
+        0..=3 => frame(family, random),
+        4 | 5 => spoilt_frame(family, random),
+        6 | 7 => shaped(family, random),
+        8 => overlapping(family, random),
+        9 => random.specials(1).repeat(3),
+        10 => vec![family.opening(); random.pick(&[1, 2, 3, 4, 5, 6])],
+        _ => junk(random),
+    }
+}
+
+fn junk(random: &mut Random) -> Vec<u8> {
+    let count = random.between(1, 12);
+    random.specials(count)
+}
+
+pub fn data_length(family: Family, random: &mut Random) -> usize {
+    let most = family.most_data();
+    match random.below(8) {
+        0 => most,
+        1 => most - 1,
+        2 => random.between(0, most),
+        3 => 0,
+        4 => 1,
+        _ => random.between(0, 12),
+    }
+}
+
+/// A valid frame.
+pub fn frame(family: Family, random: &mut Random) -> Vec<u8> {
+    let length = data_length(family, random);
+    let data = random.content(length);
+    frame_with(family, random, data)
+}
+
+pub fn frame_with(family: Family, random: &mut Random, data: Vec<u8>) -> Vec<u8> {
+    let head = if random.one_in(8) { vec![0xFF; 6] } else { random.specials(6) };
+    match family {
+        Family::ComLynx => comlynx::frame(&comlynx::Message {
+            source: u16::from_be_bytes([head[0], head[1]]),
+            destination: u16::from_be_bytes([head[2], head[3]]),
+            kind: head[4],
+            data,
+        }),
+        Family::Eversolar => eversolar::frame(&eversolar::Message {
+            source: [head[0], head[1]],
+            destination: [head[2], head[3]],
+            control: head[4],
+            function: head[5],
+            data,
+        }),
+        Family::Fronius => fronius::frame(&fronius::Message {
+            device: head[0],
+            number: head[1],
+            command: head[2],
+            data,
+        }),
+    }
+}
+
+/// A frame with one byte changed, dropped, doubled, added or exchanged with its neighbour,
+/// or cut.
+fn spoilt_frame(family: Family, random: &mut Random) -> Vec<u8> {
+    let mut frame = frame(family, random);
+    let place = place_in(&frame, random);
+    match random.below(7) {
+        0 | 1 => frame[place] = random.special(),
+        2 => frame[place] ^= 1 << random.below(8),
+        3 => drop(frame.remove(place)),
+        4 => frame.insert(place, frame[place]),
+        5 => frame.insert(place, random.special()),
+        _ => frame.truncate(place),
+    }
+    if random.one_in(4) && frame.len() > 1 {
+        let last = frame.len() - 1;
+        frame.swap(last - 1, last);
+    }
+    frame
+}
+
+/// Often near the front or the end, where the rules are.
+fn place_in(frame: &[u8], random: &mut Random) -> usize {
+    let last = frame.len() - 1;
+    match random.below(3) {
+        0 => random.below(frame.len()),
+        1 => random.below(12).min(last),
+        _ => last - random.below(4).min(last),
+    }
+}
+
+/// Two frames, the second beginning inside the first, or put into it.
+fn overlapping(family: Family, random: &mut Random) -> Vec<u8> {
+    let (mut first, second) = (frame(family, random), frame(family, random));
+    let place = place_in(&first, random);
+    let rest = first.split_off(place);
+    first.extend(second);
+    if random.one_in(2) {
+        first.extend(rest);
+    }
+    first
+}
+
+fn shaped(family: Family, random: &mut Random) -> Vec<u8> {
+    match family {
+        Family::ComLynx => shaped_stretch(random),
+        Family::Eversolar => shaped_eversolar(random),
+        Family::Fronius => shaped_fronius(random),
+    }
+}
+
+/// A body near its limits, where each check may fail or not, so that their order shows.
+fn shaped_stretch(random: &mut Random) -> Vec<u8> {
+    let length = random.pick(&[1, 2, 8, 9, 10, 11, 12, 20, 264, 265, 266, 267, 300]);
+    let mut stretch = vec![comlynx::FLAG];
+    let mut stuffed = comlynx::stuffed(&shaped_body(random, length));
+    if random.one_in(4) {
+        break_a_pair(&mut stuffed, random);
+    }
+    stretch.extend(stuffed);
+    stretch.push(comlynx::FLAG);
+    stretch
+}
+
+fn shaped_body(random: &mut Random, length: usize) -> Vec<u8> {
+    let mut body = random.content(length);
+    let begin: [u8; 2] = random.pick(&[
+        [0xFF, 0x03],
+        [0xFF, 0x03],
+        [0xFF, 0x03],
+        [0xFF, 0x02],
+        [0xFE, 0x03],
+        [3, 0xFF],
+    ]);
+    for (byte, wanted) in body.iter_mut().zip(begin) {
+        *byte = wanted;
+    }
+    if length > 6 {
+        let right_size = length.saturating_sub(10) as u8;
+        let size = random.pick(&[
+            right_size,
+            right_size,
+            right_size.wrapping_add(1),
+            right_size.wrapping_sub(1),
+            255,
+        ]);
+        body[6] = size;
+    }
+    if length > 2 && !random.one_in(4) {
+        body.truncate(length - 2);
+        body = comlynx::with_checksum(body);
+    }
+    if length > 2 && random.one_in(8) {
+        body.swap(length - 2, length - 1);
+    }
+    body
+}
+
+/// A stretch whose body has `length` bytes, wrong where a bit of `wrong` says so: a broken pair,
+/// the beginning, the size, the checksum.
+pub fn stretch_with(random: &mut Random, length: usize, wrong: u8) -> Vec<u8> {
+    let mut body = [vec![0xFF, 0x03], random.content(length)].concat();
+    body.truncate(length);
+    body[0] ^= wrong >> 1 & 1;
+    if length > 6 {
+        body[6] = (length.saturating_sub(10) as u8).wrapping_add(wrong >> 2 & 1);
+    }
+    if length > 2 {
+        body.truncate(length - 2);
+        body = comlynx::with_checksum(body);
+        body[length - 1] ^= wrong >> 3 & 1;
+    }
+    let mut stuffed = comlynx::stuffed(&body);
+    if wrong & 1 == 1 {
+        break_a_pair(&mut stuffed, random);
+    }
+    [vec![comlynx::FLAG], stuffed, vec![comlynx::FLAG]].concat()
+}
+
+fn break_a_pair(stuffed: &mut Vec<u8>, random: &mut Random) {
+    let place = random.between(0, stuffed.len());
+    stuffed.insert(place, comlynx::ESCAPE);
+    if random.one_in(2) {
+        stuffed.insert(place + 1, random.special());
+    }
+    if random.one_in(3) {
+        stuffed.push(comlynx::ESCAPE);
+    }
+}
+
+/// Sums off by one, high byte first, without the header; headers found late.
+fn shaped_eversolar(random: &mut Random) -> Vec<u8> {
+    let mut frame = frame(Family::Eversolar, random);
+    let last = frame.len() - 1;
+    match random.below(7) {
+        0 => frame.swap(last - 1, last),
+        1 => frame[last - 1] = frame[last - 1].wrapping_add(1),
+        2 => frame[last - 1] = frame[last - 1].wrapping_sub(0xFF),
+        3 => frame[last] = frame[last].wrapping_sub(1),
+        4 => frame.insert(1, random.special()),
+        5 => return [vec![0xAA; random.between(1, 3)], frame].concat(),
+        _ => {
+            let heavy = random.pick(&[253, 254, 255]);
+            return frame_with(Family::Eversolar, random, vec![0xFF; heavy]);
+        }
+    }
+    frame
+}
+
+/// Further 80, too few 80, lengths from 80, sums that take more or less in.
+fn shaped_fronius(random: &mut Random) -> Vec<u8> {
+    let mut frame = frame(Family::Fronius, random);
+    let last = frame.len() - 1;
+    let length = frame[3];
+    match random.below(8) {
+        0 => frame[last] = frame[last].wrapping_add(0x80),
+        1 => frame[last] = frame[last].wrapping_sub(length),
+        2 => frame[last] = frame[last].wrapping_add(random.pick(&[1, 255])),
+        3 => frame[3] = random.pick(&[0x7F, 0x80, 0x81, 0x81, 0x82, 0xFE, 0xFF]),
+        4 => drop(frame.remove(0)),
+        5 => frame[random.below(3)] = random.special(),
+        _ => return [vec![0x80; random.between(1, 4)], frame].concat(),
+    }
+    frame
+}
+
+// ---- whole inputs of the listing program ----
+
+/// Packets of the three ports, cut anywhere and interleaved, sometimes with something wrong.
+pub fn listing_input(random: &mut Random) -> Vec<u8> {
+    let mut left = FAMILIES.map(|family| port_stream(family, random));
+    let longest_cut = random.pick(&[1, 2, 7, 30, 240, 240]);
+    let mut packets = Vec::new();
+    while left.iter().any(|stream| !stream.is_empty()) {
+        let port = random.below(3);
+        if !left[port].is_empty() {
+            packets.push(next_packet(port, &mut left[port], longest_cut, random));
+        }
+    }
+    if random.one_in(2) {
+        spoil_the_packets(&mut packets, random);
+    }
+    packets.concat()
+}
+
+/// Mostly its own family; now and then another's bytes, or none.
+fn port_stream(family: Family, random: &mut Random) -> Vec<u8> {
+    let least = random.pick(&[0, 1, 20, 100, 400, 1200]);
+    let family = if random.one_in(12) { random.pick(&FAMILIES) } else { family };
+    stream(family, random, least)
+}
+
+fn next_packet(
+    port: usize,
+    stream: &mut Vec<u8>,
+    longest_cut: usize,
+    random: &mut Random,
+) -> Vec<u8> {
+    let cut = if random.one_in(3) { longest_cut } else { random.between(1, longest_cut) };
+    let rest = stream.split_off(cut.min(stream.len()));
+    let line = std::mem::replace(stream, rest);
+    packet::packet(port as u8 + 1, &line)
+}
+
+/// One packet (mostly a late one) gets a wrong head, or the input ends inside it.
+fn spoil_the_packets(packets: &mut Vec<Vec<u8>>, random: &mut Random) {
+    if packets.is_empty() {
+        packets.push(packet::packet(1, &[0x7E]));
+    }
+    let place = packets.len() - 1 - random.below(packets.len().min(4));
+    spoil_a_head(&mut packets[place], random);
+    if random.one_in(4) {
+        spoil_a_head(&mut packets[place], random);
+    }
+    if random.one_in(3) {
+        let cut = random.below(packets[place].len());
+        packets[place].truncate(cut);
+        packets.truncate(place + 1);
+    }
+}
+
+pub fn spoil_a_head(packet: &mut [u8], random: &mut Random) {
+    match random.below(6) {
+        0 => packet[random.below(3)] = random.special(),
+        1 => packet[3 + random.below(2)] = random.pick(&[0, 1, 2, 0xFF]),
+        2 => packet[5] = random.pick(&[0, 1, 2, 3, 4, 0xFF]),
+        3 => packet[6] = random.pick(&[0, 1, 239, 240, 241, 255]),
+        4 => packet[random.below(7)] ^= 1 << random.below(8),
+        _ => {}
+    }
+}
+
+/// Packets of one byte each, `packets` in all, the ports in turn, then `tail`.
+pub fn long_listing_input(random: &mut Random, packets: usize, tail: &[u8]) -> Vec<u8> {
+    let streams = FAMILIES.map(|family| stream(family, random, packets / 3 + 1));
+    let mut input = Vec::new();
+    for place in 0..packets {
+        let (port, byte) = (place % 3, streams[place % 3][place / 3]);
+        input.extend(packet::packet(port as u8 + 1, &[byte]));
+    }
+    input.extend(tail);
+    input
+}

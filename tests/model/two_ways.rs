@@ -1,0 +1,88 @@
+//! The model against itself: a stream read whole, and the same stream read byte by byte in
+//! pieces, must tell the same messages and damages at the same bytes.
+
+use crate::random::Random;
+use crate::streams::{self, Family};
+use right::{comlynx, eversolar, fronius, Event, Reading};
+
+/// What was told, and after how many bytes of the stream.
+type Told = (usize, String);
+
+pub fn disagree(family: Family, random: &mut Random) -> Option<String> {
+    let least = random.pick(&[10, 100, 1000]);
+    let stream = streams::stream(family, random, least);
+    let longest_piece = random.pick(&[1, 3, 50, 500]);
+    let (whole, in_pieces) = match family {
+        Family::ComLynx => {
+            let mut state = comlynx::fresh();
+            let read = |piece: &[u8], lent: &mut [u8]| comlynx::read(&mut state, piece, lent);
+            (
+                told(comlynx::events(&stream), of_comlynx),
+                pieces(&stream, random, longest_piece, read, of_comlynx),
+            )
+        }
+        Family::Eversolar => {
+            let mut state = eversolar::fresh();
+            let read = |piece: &[u8], lent: &mut [u8]| eversolar::read(&mut state, piece, lent);
+            (
+                told(eversolar::events(&stream), of_eversolar),
+                pieces(&stream, random, longest_piece, read, of_eversolar),
+            )
+        }
+        Family::Fronius => {
+            let mut state = fronius::fresh();
+            let read = |piece: &[u8], lent: &mut [u8]| fronius::read(&mut state, piece, lent);
+            (
+                told(fronius::events(&stream), of_fronius),
+                pieces(&stream, random, longest_piece, read, of_fronius),
+            )
+        }
+    };
+    (whole != in_pieces).then(|| format!("whole: {whole:?}\n  in pieces: {in_pieces:?}"))
+}
+
+fn of_comlynx(message: &comlynx::Message) -> String {
+    let (from, to) = (message.source, message.destination);
+    format!("{from} {to} {} {:?}", message.kind, message.data)
+}
+
+fn of_eversolar(message: &eversolar::Message) -> String {
+    let (from, to) = (message.source, message.destination);
+    format!("{from:?} {to:?} {} {} {:?}", message.control, message.function, message.data)
+}
+
+fn of_fronius(message: &fronius::Message) -> String {
+    format!("{} {} {} {:?}", message.device, message.number, message.command, message.data)
+}
+
+fn told<M>(events: Vec<Event<M>>, words: fn(&M) -> String) -> Vec<Told> {
+    let in_words = |event: Event<M>| match event.outcome {
+        Ok(message) => (event.end, words(&message)),
+        Err(damage) => (event.end, format!("damage {damage}")),
+    };
+    events.into_iter().map(in_words).collect()
+}
+
+/// "each piece called on until it is used up".
+fn pieces<M>(
+    stream: &[u8],
+    random: &mut Random,
+    longest_piece: usize,
+    mut read: impl FnMut(&[u8], &mut [u8]) -> Reading<M>,
+    words: fn(&M) -> String,
+) -> Vec<Told> {
+    let (mut told, mut place, mut piece_end) = (Vec::new(), 0, 0);
+    while place < stream.len() {
+        if place == piece_end {
+            piece_end = stream.len().min(place + random.between(1, longest_piece));
+        }
+        let reading = read(&stream[place..piece_end], &mut [0; 255]);
+        place += reading.used;
+        match (reading.number, reading.message) {
+            (0, _) => {}
+            (_, Some(message)) => told.push((place, words(&message))),
+            (damage, None) => told.push((place, format!("damage {damage}"))),
+        }
+    }
+    told
+}
