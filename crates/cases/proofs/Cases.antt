@@ -4,9 +4,9 @@ use mathlib.Core.Path.{refl}
 use Rattle.fcs.specs.Fcs.{folded, bitStep, bitSteps, entry, fcsNext, fcsFrom, fcsOf, sentAfter, sent, same, agrees}
 use Rattle.comlynx.specs.Wire as ComLynxWire
 use Rattle.comlynx.specs.Rules as ComLynxRules
-use Rattle.eversolar.specs.Words as EversolarWords
+use Rattle.eversolar_words.specs.Words as EversolarWords
 use Rattle.eversolar.specs.Wire as EversolarWire
-use Rattle.eversolar.specs.Waits as EversolarWaits
+use Rattle.eversolar_values.specs.Waits as EversolarWaits
 use Rattle.fronius.specs.Wire as FroniusWire
 use Rattle.fronius.specs.Rules as FroniusRules
 use Rattle.fronius_values.specs.Measured as Measured

@@ -14,9 +14,9 @@ use Rattle.fcs.specs.Fcs.{fcsOf, sent}
 use Rattle.comlynx.specs.Wire as ComLynxWire
 use Rattle.comlynx.specs.Rules as ComLynxRules
 use Rattle.eversolar.specs.Wire as EversolarWire
-use Rattle.eversolar.specs.Requests as EversolarRequests
-use Rattle.eversolar.specs.Waits as EversolarWaits
-use Rattle.eversolar.specs.declared.requests.ToAll.the-variants.{OffLine}
+use Rattle.eversolar_requests.specs.Requests as EversolarRequests
+use Rattle.eversolar_values.specs.Waits as EversolarWaits
+use Rattle.eversolar_requests.specs.declared.ToAll.the-variants.{OffLine}
 use Rattle.fronius.specs.Wire as FroniusWire
 use Rattle.fronius.specs.Rules as FroniusRules
 use Rattle.fronius_values.specs.Measured as Measured

@@ -17,14 +17,14 @@ use Rattle.stream.proofs.Bytes.{bytes-cons, bytes-append}
 use Rattle.stream.proofs.Call.{steps-seen, steps-keeps}
 use Rattle.stream.proofs.Facts.{Facts}
 use Rattle.stream.proofs.Follows.{follows-by}
-use Rattle.eversolar.specs.Words.{word, wordBytes}
+use Rattle.eversolar_words.specs.Words.{word, wordBytes}
 use Rattle.eversolar.specs.Wire.{Message, Takes, dataMax, firstMark, secondMark, total, checksum, head, earlier, wire, judged}
 use Rattle.eversolar.specs.Rules.{frame, sought, rule}
 use Rattle.eversolar.specs.Machine.{next}
 use Rattle.eversolar.specs.Machine as Machine
 use Rattle.eversolar.specs.Reader.{inRange, header, join, shown}
 use Rattle.eversolar.specs.Demands.{eversolar}
-use Rattle.eversolar.proofs.WordLaws.{word-length, word-bytes, word-again}
+use Rattle.eversolar_words.proofs.WordLaws.{word-length, word-bytes, word-again}
 use Rattle.eversolar.proofs.Frame.{wire-length}
 use Rattle.eversolar.proofs.Follows.{Rests, rule-found, fresh-rests}
 

@@ -22,7 +22,7 @@ use Rattle.stream.proofs.Loop.{scan-front}
 use Rattle.stream.proofs.Written.{scan-by}
 use Rattle.stream.proofs.Lists.{sets-append, sets-front}
 use Rattle.stream.proofs.Follows.{Finds, finds-end, finds-goes, finds-call, finds-quiet}
-use Rattle.eversolar.specs.Words.{word}
+use Rattle.eversolar_words.specs.Words.{word}
 use Rattle.eversolar.specs.Wire.{Message, dataMax, firstMark, secondMark, judged}
 use Rattle.eversolar.specs.Rules.{frame, sought}
 use Rattle.eversolar.specs.Machine.{looking, holding, bodyMax, lookedOf, most, on, tells, next}

@@ -14,10 +14,10 @@ use Rattle.answers.specs.declared.Written.the-variants.{Done, Refused}
 use Rattle.answers.specs.declared.Refusal.the-variants.{TooLong, NoRoom}
 use Rattle.answers.proofs.Writing.{writes-too-long, writes-no-room, writes-done}
 use Rattle.stream.proofs.Lists.{sets-append, sets-front}
-use Rattle.eversolar.specs.Words.{wordBytes}
+use Rattle.eversolar_words.specs.Words.{wordBytes}
 use Rattle.eversolar.specs.Wire.{Message, dataMax, head, front, checksum, earlier, wire}
 use Rattle.eversolar.specs.Writer.{WritesMessage}
-use Rattle.eversolar.proofs.WordLaws.{word-length}
+use Rattle.eversolar_words.proofs.WordLaws.{word-length}
 
 pub wire-length : (m : Message) → length (wire m) ≡ 9 + length (m .bytes) + 2
 wire-length m = simp length-append (omega (arith, word-length (checksum (earlier m))))

@@ -14,7 +14,7 @@ use Rattle.answers.specs.declared.Damage.the-variants.{WrongSum}
 use Rattle.stream.specs.Event.{Event, message, damage, Told, done, gives, refuses}
 use Rattle.stream.specs.Event as Event
 use Rattle.stream.specs.Call.{retold, delivered}
-use Rattle.eversolar.specs.Words.{word}
+use Rattle.eversolar_words.specs.Words.{word}
 use Rattle.eversolar.specs.Wire.{Message, dataMax, front, checksum, messageOf, judged}
 use Rattle.eversolar.specs.Machine.{bodyMax}
 use Rattle.eversolar.specs.Reader.{told, header}

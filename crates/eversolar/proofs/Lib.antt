@@ -1,4 +1,3 @@
-pub mod WordLaws
 pub mod Moves
 pub mod Range
 pub mod Judge
@@ -6,6 +5,4 @@ pub mod Frame
 pub mod Follows
 pub mod Facts
 pub mod Demands
-pub mod Requested
-pub mod ReadBack
 pub mod One

@@ -8,7 +8,7 @@ use lib.Seq.{take-suc}
 use borrow.Author.Tests.{lt-ltb, le-ltb}
 use native.Mathlib.Numerals.{add-one}
 use native.Mathlib.Omega.{arith}
-use Rattle.eversolar.specs.Words.{word}
+use Rattle.eversolar_words.specs.Words.{word}
 use Rattle.eversolar.specs.Wire.{total, front, judged}
 use Rattle.eversolar.specs.Machine.{holding, lookedOf, most, advanceOf, on, tells, moved, next}
 

@@ -9,7 +9,7 @@ use Rattle.stream.specs.Event.{Event}
 use Rattle.stream.specs.Event as Event
 use Rattle.stream.specs.Call.{retold}
 use Rattle.stream.specs.Pieces.{scan, scanFrom}
-use Rattle.eversolar.specs.Words.{word}
+use Rattle.eversolar_words.specs.Words.{word}
 use Rattle.eversolar.specs.Wire.{Message, dataMax, judged}
 use Rattle.eversolar.specs.Machine.{holding, inRange, most, next}
 use Rattle.eversolar.specs.Reader.{told, header}
@@ -20,7 +20,6 @@ use Rattle.eversolar.specs.declared.reader.Place.{Place}
 use Rattle.eversolar.specs.declared.reader.Place.the-variants.{Found, End as AtEnd}
 use Rattle.eversolar.specs.declared.reader.End.{End}
 use Rattle.eversolar.specs.declared.reader.End.the-variants.{UsedUp, Closed}
-use Rattle.eversolar.specs.declared.requests.Code.{Code}
 
 -- `hunt`: the call goes on behind AA 55, in the head; or there is none up to the end of the piece
 abbrev pub Hunted : List ℕ → ℕ → ℕ → Place → Type 0
@@ -78,7 +77,3 @@ given Done held lent = lent
 given (Read h) held lent = take (h .len) (drop 7 held) ++ drop (h .len) lent
 given (Damaged what) held lent = lent
 given (Refused why) held lent = lent
-
--- `code_to_all`, `code_to_one`: the control and the function of a message
-abbrev pub IsCode : Message → Code → Type 0
-IsCode m code = (code .control ≡ m .control) × (code .function ≡ m .function)

@@ -1,11 +1,7 @@
-pub mod Words
 pub mod Wire
 pub mod Rules
 pub mod Machine
 pub mod Reader
 pub mod Writer
-pub mod Requests
-pub mod Energy
-pub mod Waits
 pub mod Demands
 pub mod Inside

@@ -7,7 +7,7 @@ use lib.ListN.{take, drop, getD, set, replicate}
 use lib.Dec.{eqb, ltb, leb}
 use Rattle.stream.specs.Event.{Event}
 use Rattle.stream.specs.Pieces.{Moved}
-use Rattle.eversolar.specs.Words.{word}
+use Rattle.eversolar_words.specs.Words.{word}
 use Rattle.eversolar.specs.Wire.{Message, dataMax, firstMark, secondMark, judged}
 use Rattle.eversolar.specs.declared.reader.Reader.{Reader}
 use Rattle.eversolar.specs.declared.reader.Move.{Move}

@@ -7,7 +7,7 @@ use lib.ListN.{length, take, drop, getD}
 use lib.Dec.{eqb, ltb}
 use Rattle.stream.specs.Event.{Event}
 use Rattle.stream.specs.Rule.{Placed}
-use Rattle.eversolar.specs.Words.{word}
+use Rattle.eversolar_words.specs.Words.{word}
 use Rattle.eversolar.specs.Wire.{Message, firstMark, secondMark, judged}
 
 -- where `at` bytes came before, up to and with AA 55: six bytes, N, N data bytes and the checksum, once they are all there

@@ -6,7 +6,7 @@ use lib.ListN.{length, getD}
 use lib.Dec.{T, eqb}
 use lib.Pow.{areBytes}
 use Rattle.stream.specs.Event.{Event, message, damage}
-use Rattle.eversolar.specs.Words.{wordBytes}
+use Rattle.eversolar_words.specs.Words.{wordBytes}
 
 -- source and destination are two bytes each, as sent
 pub record Message : Type 0 where

@@ -1,7 +1,7 @@
 // The streaming reader: bytes go in by pieces, messages and damages come out, whatever the pieces.
-use crate::words::word;
 use answers::Damage;
 use answers::Refusal;
+use eversolar_words::word;
 ghost use Prim.Native.Nat.{min, _+_, _*_, _≤_, _<_};
 ghost use mathlib.Core.Path.{_≡_};
 ghost use mathlib.Core.Bool.{true};

@@ -18,7 +18,7 @@ use Rattle.comlynx.specs.Machine as Comlynx
 use Rattle.comlynx.specs.Reader as ComlynxReader
 use Rattle.comlynx.specs.declared.reader.Reader as ComlynxState
 use Rattle.comlynx.proofs.Range as ComlynxRange
-use Rattle.eversolar.specs.Words.{word}
+use Rattle.eversolar_words.specs.Words.{word}
 use Rattle.eversolar.specs.Wire as EversolarWire
 use Rattle.eversolar.specs.Machine as Eversolar
 use Rattle.eversolar.specs.Reader as EversolarReader

@@ -11,8 +11,8 @@ use crate::wire::word_at;
 use comlynx::Address;
 use comlynx::Addressed;
 use comlynx::Meaning;
-use eversolar::Energy;
-use eversolar::Wait;
+use eversolar_values::Energy;
+use eversolar_values::Wait;
 use fronius_values::measured::Measured;
 use fronius_values::reading::Read;
 use fronius_values::reading::Reading;
@@ -71,7 +71,7 @@ fn put_double_result(out: &mut [u8], number: u8, d: u32) -> usize {
 }
 
 pub(crate) fn energy(s: &[u8], out: &mut [u8]) -> usize {
-    let energy = eversolar::total_energy(byte_at(s, 1), byte_at(s, 2), list_at(s, 3));
+    let energy = eversolar_values::total_energy(byte_at(s, 1), byte_at(s, 2), list_at(s, 3));
     match energy {
         Energy::Tenths(tenths) => put_double_result(out, 0, tenths),
         Energy::Refused(why) => put_double_result(out, why.number(), 0),
@@ -85,7 +85,7 @@ fn put_quad_result(out: &mut [u8], number: u8, q: u64) -> usize {
 }
 
 pub(crate) fn wait(s: &[u8], out: &mut [u8]) -> usize {
-    let wait = eversolar::wait_of(quad_at(s, 1), byte_at(s, 9));
+    let wait = eversolar_values::wait_of(quad_at(s, 1), byte_at(s, 9));
     match wait {
         Wait::Units(units) => put_quad_result(out, 0, units),
         Wait::Refused(why) => put_quad_result(out, why.number(), 0),

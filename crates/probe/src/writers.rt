@@ -11,8 +11,8 @@ use crate::wire::put_list;
 use crate::wire::put_size;
 use crate::wire::word_at;
 use answers::Written;
-use eversolar::ToAll;
-use eversolar::ToOne;
+use eversolar_requests::ToAll;
+use eversolar_requests::ToOne;
 
 // Where a result has the lent buffer: behind its length, the number and the length written.
 const LATER: usize = 5;
@@ -112,7 +112,7 @@ pub(crate) fn ask_all(s: &[u8], out: &mut [u8]) -> usize {
     let lent = list_span(out, LATER);
     let from = lent.from;
     let to = lent.to;
-    let w = eversolar::ask_all(to_all(byte_at(s, 1)), &mut out[from..to]);
+    let w = eversolar_requests::ask_all(to_all(byte_at(s, 1)), &mut out[from..to]);
     written(out, w, end)
 }
 
@@ -121,7 +121,7 @@ pub(crate) fn ask_one(s: &[u8], out: &mut [u8]) -> usize {
     let lent = list_span(out, LATER);
     let from = lent.from;
     let to = lent.to;
-    let w = eversolar::ask_one(to_one(byte_at(s, 1)), byte_at(s, 2), &mut out[from..to]);
+    let w = eversolar_requests::ask_one(to_one(byte_at(s, 1)), byte_at(s, 2), &mut out[from..to]);
     written(out, w, end)
 }
 
@@ -131,6 +131,10 @@ pub(crate) fn give_address(s: &[u8], out: &mut [u8]) -> usize {
     let lent = list_span(out, LATER);
     let from = lent.from;
     let to = lent.to;
-    let w = eversolar::give_address(list_at(s, 1), byte_at(s, address), &mut out[from..to]);
+    let w = eversolar_requests::give_address(
+        list_at(s, 1),
+        byte_at(s, address),
+        &mut out[from..to],
+    );
     written(out, w, end)
 }

@@ -8,8 +8,8 @@ use crate::parts::further;
 use crate::parts::high;
 use crate::parts::low;
 use crate::parts::power;
-use eversolar::ToAll;
-use eversolar::ToOne;
+use eversolar_requests::ToAll;
+use eversolar_requests::ToOne;
 
 const ADDRESS: u8 = 0x11;
 
@@ -45,7 +45,7 @@ fn ask_all(line: &mut [u8], at: usize, what: ToAll) -> usize {
     if line.len() < at {
         return at;
     }
-    let w = eversolar::ask_all(what, &mut line[at..]);
+    let w = eversolar_requests::ask_all(what, &mut line[at..]);
     after(at, w)
 }
 
@@ -53,7 +53,7 @@ fn ask_one(line: &mut [u8], at: usize, what: ToOne) -> usize {
     if line.len() < at {
         return at;
     }
-    let w = eversolar::ask_one(what, ADDRESS, &mut line[at..]);
+    let w = eversolar_requests::ask_one(what, ADDRESS, &mut line[at..]);
     after(at, w)
 }
 
@@ -61,7 +61,7 @@ fn give_address(line: &mut [u8], at: usize) -> usize {
     if line.len() < at {
         return at;
     }
-    let w = eversolar::give_address(&SERIAL, ADDRESS, &mut line[at..]);
+    let w = eversolar_requests::give_address(&SERIAL, ADDRESS, &mut line[at..]);
     after(at, w)
 }
 

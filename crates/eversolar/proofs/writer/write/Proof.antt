@@ -3,7 +3,7 @@ use lib.ListN.{length-set, length}
 use lib.Seq.{sets, length-sets}
 use borrow.Rule.Slice.PartMut.{putMid}
 use Rattle.stream.proofs.Lists.{part-put}
-use Rattle.eversolar.specs.Words.{wordBytes}
+use Rattle.eversolar_words.specs.Words.{wordBytes}
 use Rattle.eversolar.specs.Wire.{Message, checksum}
 use Rattle.eversolar.proofs.Frame.{too-long, no-room, done, first, summed, framed}
 use native.Mathlib.Omega.{arith}

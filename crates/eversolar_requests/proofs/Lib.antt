@@ -1,0 +1,3 @@
+pub mod Requested
+pub mod ReadBack
+pub mod One
