@@ -26,10 +26,16 @@ static const u16 fcs_table[256] = {
     0x3de3, 0x2c6a, 0x1ef1, 0x0f78,
 };
 
-static u16 fcs(const u8 *s, size n)
+/* going on from a state */
+static u16 fcs_more(u16 state, const u8 *s, size n)
 {
-    u16 state = 0xffff;
     for (size i = 0; i < n; i++)
         state = (u16)(state >> 8 ^ fcs_table[(state ^ s[i]) & 0xff]);
-    return (u16)~state;
+    return state;
+}
+
+/* what is sent after the bytes */
+static u16 fcs(const u8 *s, size n)
+{
+    return (u16)~fcs_more(0xffff, s, n);
 }

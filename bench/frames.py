@@ -1,17 +1,12 @@
-#!/usr/bin/env python3
-"""Makes an input for `pace`: a family's byte, then valid frames one after another.
+"""Frames of each family, one after another: as many as fit, all of one length, or such as a day has, cut into packets.
 
-    bench/frames.py FAMILY DATA BYTES [EVERY] > FILE
-
-FAMILY is comlynx, eversolar or fronius; each frame has DATA data bytes; as many whole frames as fit into BYTES
-bytes. Addresses, codes and data are random, by a fixed seed. The line that a reader of it is to print goes to
-standard error. With EVERY, about one byte in EVERY is then changed, and no line is known. Written from document 01
-alone.
+Addresses, codes and data are random, by a fixed seed. Written from document 01 alone.
 """
+import itertools
 import random
-import sys
 
-MOST = 65536  # what `pace` reads after the family's byte
+MOST = 65536  # bytes that `pace` reads, and packets that `sbrlist` lists
+LINE = 240  # line bytes of a full packet
 SPECIAL = bytes([0x7E, 0x7D, 0x5E, 0xAA, 0x55, 0x80, 0x81, 0x00])  # bytes that mean something to some family
 
 
@@ -59,43 +54,83 @@ FAMILIES = {"comlynx": (1, comlynx, 255), "eversolar": (2, eversolar, 255), "fro
 
 
 def spoilt(text, every):
-    """An input with about one byte in `every` changed, often to one that means something."""
+    """Bytes of which about one in `every` is changed, often to one that means something."""
     rng = random.Random(f"{every} of {len(text)}")
     out = bytearray(text)
-    for at in range(1, len(out)):
+    for at in range(len(out)):
         if rng.randrange(every) == 0:
             out[at] = rng.choice(SPECIAL) if rng.randrange(2) else rng.randrange(256)
     return bytes(out)
 
 
 def stream(family, count, most):
-    """The input, and the line that is to be printed: family, messages, damages, check number."""
+    """As many frames of so many data bytes as fit; how many they are; and the line that `pace` prints of them."""
     number, frame, limit = FAMILIES[family]
-    if not 0 <= count <= limit or not 0 <= most <= MOST:
-        raise ValueError(f"{family} has 0 to {limit} data bytes, and an input 0 to {MOST} bytes")
+    assert 0 <= count <= limit and 0 <= most <= MOST
     rng = random.Random(f"{family} {count}")
     out, messages, check = bytearray(), 0, 0
     while True:
         data = rng.randbytes(count)
         wire, code = frame(rng, data)
         if len(out) + len(wire) > most:
-            return bytes([number]) + bytes(out), f"{number} {messages} 0 {check}\n"
+            return bytes(out), messages, f"{number} {messages} 0 {check}\n"
         out += wire
         messages += 1
-        check = (check * 31 + code + sum(data)) % 65521
+        check = (check * 3 + code + sum(data)) % 2**64
 
 
-def main():
-    try:
-        family, count, most = sys.argv[1], int(sys.argv[2]), int(sys.argv[3])
-        text, line = stream(family, count, most)
-        if sys.argv[4:]:
-            text, line = spoilt(text, int(sys.argv[4])), ""
-    except (IndexError, KeyError, ValueError) as wrong:
-        sys.exit(f"{__doc__}\n{wrong}")
-    sys.stdout.buffer.write(text)
-    sys.stderr.write(line)
+# ---- a day of packets
+
+FAMILY = dict(enumerate(FAMILIES, 1))  # by port
+PORTS = tuple(FAMILY)
+POOL = 200  # frames of a family that differ
 
 
-if __name__ == "__main__":
-    main()
+def sizes(rng, family):
+    """How many data bytes a message has."""
+    if family == "comlynx":
+        return 255 if rng.randrange(20) == 0 else rng.randrange(65)
+    if family == "eversolar":
+        return rng.choice([0, rng.randrange(60, 121)])
+    return rng.choice([0, 3])
+
+
+def content(rng, count):
+    """Data in which the bytes that mean something to some family come more often than by chance."""
+    return bytes(rng.choice(SPECIAL) if rng.randrange(16) == 0 else rng.randrange(256) for _ in range(count))
+
+
+def mixed(rng, family, size):
+    """Sound frames of many lengths one after another, the last one cut off."""
+    frame = FAMILIES[family][1]
+    pool = [frame(rng, content(rng, sizes(rng, family)))[0] for _ in range(POOL)]
+    out = bytearray()
+    while len(out) < size:
+        out += rng.choice(pool)
+    return bytes(out[:size])
+
+
+def packet(port, line):
+    return b"SBR\0\1" + bytes([port, len(line)]) + line
+
+
+def day(packets, every=0, ports=PORTS):
+    """Full packets of the ports in turn; with `every`, about one line byte in so many is changed."""
+    rng = random.Random(f"listing {every} {ports}")
+    turns = -(-packets // len(ports))
+    lines = [mixed(rng, FAMILY[port], turns * LINE) for port in ports]
+    if every:
+        lines = [spoilt(text, every) for text in lines]
+    cuts = (packet(port, text[k * LINE:(k + 1) * LINE]) for k in range(turns) for port, text in zip(ports, lines))
+    return b"".join(itertools.islice(cuts, packets))
+
+
+def refused():
+    """Inputs that stop a listing, each with what it has."""
+    good = packet(3, bytes.fromhex("8080800000000101"))
+    yield "no input", b""
+    for what, bad in (("mark", b"SBS\0\1\1\1~"), ("version", b"SBR\1\0\1\1~"), ("port", b"SBR\0\1\0\1~"), ("port", b"SBR\0\1\4\1~"),
+                      ("count", b"SBR\0\1\1\0~"), ("count", b"SBR\0\1\1\xf1~"), ("end in the head", b"SBR\0\1\1"),
+                      ("end in the line", b"SBR\0\1\1\2~")):
+        yield f"a wrong {what}", good + bad
+        yield f"a wrong {what}, and more", good + bad + good

@@ -1,7 +1,7 @@
 """What the scripts of bench/ share: the kit, its programs, and how instructions are counted.
 
-Programs are for x86-64. There `perf` counts, or valgrind where perf may not; elsewhere the kit's emulator, which tells
-each instruction. No count is a time.
+Programs are for x86-64. There `perf` counts, or valgrind where perf may not; elsewhere the kit's emulator, whose log tells
+what it runs. No count is a time.
 """
 import os
 import platform
@@ -55,6 +55,7 @@ class Kit:
 
     def build(self, into, name, source):
         """Our program of that name and a C one, at paths of one length: where the stack begins hangs on that, and so do some counts."""
+        into.mkdir()
         ours, plain = into / "ours", into / "them"
         call([self.rt, "check", name], cwd=ROOT)
         shutil.copy(ROOT / "target/bin" / name, ours)
@@ -77,35 +78,53 @@ class Kit:
         """The words that run a program here."""
         return [*([str(self.emulator)] if self.emulator else []), *self.words(program)]
 
-    def line(self, program, text):
-        """What a program prints."""
-        return call(self.runs(program), input=text, env={}).stdout.decode()
+    def output(self, program, text):
+        """What a program writes, a character for each byte."""
+        return call(self.runs(program), input=text, env={}).stdout.decode("latin-1")
 
 
-# ---- counting: each takes the words that run a program and its input, and gives what it printed and the instructions
+# ---- counting: each takes the words that run a program and its input, and gives what it wrote and the instructions
+
+
+def traced(emulator, words, text, env=None):
+    """What a program wrote, to either side, and how often each instruction ran, by its address."""
+    # The emulator tells each stretch of code once, instruction by instruction, and then each run of it. Its log goes down a pipe and is stored nowhere.
+    reader, writer = os.pipe()
+    with tempfile.TemporaryFile() as given, tempfile.TemporaryFile() as wrote, tempfile.TemporaryFile() as aside:
+        given.write(text)
+        given.seek(0)
+        ran = subprocess.Popen([str(emulator), "-d", "op,exec,nochain", "-D", f"/dev/fd/{writer}", *words],
+                               stdin=given, stdout=wrote, stderr=aside, pass_fds=[writer], env=env or {})
+        os.close(writer)
+        here, runs, told = {}, [], None  # the number of the stretch that lies at a place; each stretch and its runs
+        with open(reader, "rb", 1 << 20) as log:
+            for line in log:
+                if line.startswith(b"Trace "):
+                    at = line[9:line.index(b"[")]  # where its code lies in the emulator
+                    if told is not None:  # just made: another may have lain there before
+                        here[at] = len(runs)
+                        runs.append([told, 0])
+                        told = None
+                    runs[here[at]][1] += 1
+                elif line.startswith(b" ---- "):
+                    told.append(int(line[6:22], 16))
+                elif line.startswith(b"OP:"):
+                    told = []
+        if ran.wait():
+            raise Broken(f"{Path(words[-1]).name} ended with status {ran.returncode}")
+        wrote.seek(0)
+        aside.seek(0)
+        times = {}
+        for stretch, count in runs:
+            for address in stretch:
+                times[address] = times.get(address, 0) + count
+        return wrote.read().decode("latin-1"), aside.read().decode("latin-1"), times
 
 
 def by_emulator(emulator):
     def count(words, text):
-        # the emulator tells each instruction on a line of its log, which goes down a pipe and is stored nowhere
-        reader, writer = os.pipe()
-        log = f"/dev/fd/{writer}"
-        with tempfile.TemporaryFile() as given, tempfile.TemporaryFile() as wrote:
-            given.write(text)
-            given.seek(0)
-            ran = subprocess.Popen([str(emulator), "-one-insn-per-tb", "-d", "exec,nochain", "-D", log, *words],
-                                   stdin=given, stdout=wrote, pass_fds=[writer], env={})
-            os.close(writer)
-            lines, rest = 0, b""
-            while chunk := os.read(reader, 1 << 20):
-                chunk = rest + chunk
-                lines += chunk.count(b"Trace ")
-                rest = chunk[-5:]  # too short for the word, long enough for a part of it
-            os.close(reader)
-            if ran.wait():
-                raise Broken(f"{Path(words[-1]).name} ended with status {ran.returncode}")
-            wrote.seek(0)
-            return wrote.read().decode(), lines
+        wrote, _, times = traced(emulator, words, text)
+        return wrote, sum(times.values())
 
     return count
 
@@ -117,7 +136,7 @@ def by_perf(perf):
             found = re.findall(rb"^(\d+),[^,]*,[^,]*instructions", told.read(), re.M)  # one for each kind of core
         if not found:
             raise Broken("perf counts no instructions here")
-        return ran.stdout.decode(), sum(map(int, found))
+        return ran.stdout.decode("latin-1"), sum(map(int, found))
 
     return count
 
@@ -128,7 +147,7 @@ def by_valgrind(valgrind):
         found = re.search(rb"Collected : (\d+)", ran.stderr)
         if not found:
             raise Broken("valgrind counts no instructions here")
-        return ran.stdout.decode(), int(found[1])
+        return ran.stdout.decode("latin-1"), int(found[1])
 
     return count
 

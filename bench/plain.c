@@ -24,7 +24,7 @@ enum {
     SPOILT = 18
 };
 
-enum { PIECE = 240, LENT = 255, INPUT = 65536 };
+enum { LENT = 255, INPUT = 65536 };
 
 /* ---- ComLynx */
 
@@ -318,11 +318,11 @@ struct tally {
     size messages, damages, check;
 };
 
-static size piece_end(size at, size end, size len)
+static size piece_end(size at, size end, size piece, size len)
 {
     if (at < end)
         return end;
-    return PIECE < len - at ? at + PIECE : len;
+    return piece < len - at ? at + piece : len;
 }
 
 static size checked(size check, u8 code, const u8 *data, size n)
@@ -330,12 +330,12 @@ static size checked(size check, u8 code, const u8 *data, size n)
     size sum = 0;
     for (size i = 0; i < n; i++)
         sum += data[i];
-    return (check * 31 + code + sum) % 65521;
+    return check * 3 + code + sum;
 }
 
 /* one function a family, the same but for its reader and its code byte */
 #define OF(family, code)                                                                                   \
-    static struct tally of_##family(const u8 *input, size len, u8 *lent)                                   \
+    static struct tally of_##family(const u8 *input, size len, size piece, u8 *lent)                       \
     {                                                                                                      \
         struct family r = {0};                                                                             \
         struct tally t = {0, 0, 0};                                                                        \
@@ -343,7 +343,7 @@ static size checked(size check, u8 code, const u8 *data, size n)
         while (at < len) {                                                                                 \
             struct family##_header h;                                                                      \
             size used;                                                                                     \
-            end = piece_end(at, end, len);                                                                 \
+            end = piece_end(at, end, piece, len);                                                          \
             int answer = family##_step(&r, input + at, end - at, lent, LENT, &h, &used);                   \
             at += used;                                                                                    \
             if (answer == MESSAGE) {                                                                       \
@@ -374,29 +374,38 @@ static void print(size n, char after)
     write(1, text + at, 21 - at);
 }
 
+/* reads until there are so many bytes or no more */
+static size read_full(u8 *to, size most)
+{
+    size len = 0;
+    long more;
+    while (len < most && (more = read(0, to + len, most - len)) > 0)
+        len += (size)more;
+    return len;
+}
+
 int main(void)
 {
     static u8 input[INPUT];
-    u8 lent[LENT], family = 0;
+    u8 lent[LENT], first[3] = {0};
     struct tally t = {0, 0, 0};
-    size len = 0;
-    long more;
-    if (read(0, &family, 1) < 0)
-        return 1;
-    while (len < INPUT && (more = read(0, input + len, INPUT - len)) > 0)
-        len += (size)more;
-    switch (family) {
+    read_full(first, 3);
+    size len = read_full(input, INPUT);
+    size piece = (size)(first[1] << 8 | first[2]);
+    if (piece == 0)
+        piece = INPUT;
+    switch (first[0]) {
     case 1:
-        t = of_comlynx(input, len, lent);
+        t = of_comlynx(input, len, piece, lent);
         break;
     case 2:
-        t = of_eversolar(input, len, lent);
+        t = of_eversolar(input, len, piece, lent);
         break;
     case 3:
-        t = of_fronius(input, len, lent);
+        t = of_fronius(input, len, piece, lent);
         break;
     }
-    print(family, ' ');
+    print(first[0], ' ');
     print(t.messages, ' ');
     print(t.damages, ' ');
     print(t.check, '\n');

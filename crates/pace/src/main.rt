@@ -1,13 +1,9 @@
-// Paces the readers for the bench. The first byte of standard input names a family, the rest is handed to its reader in pieces.
-// Prints the family, the messages, the damages and a check number over the messages.
+// Paces the readers for the bench. The first byte of standard input names a family, the next two say how long a piece is, high byte first, 0 meaning
+// 65,536; the rest is handed to the family's reader in pieces. Prints the family, the messages, the damages and a check number over the messages.
 use libc::STDIN_FILENO;
 use libc::STDOUT_FILENO;
-ghost use Prim.Native.Nat.{_+_, _*_, _≤_, _<_};
-ghost use mathlib.Core.Path.{_≡_};
+ghost use Prim.Native.Nat.{_≤_};
 ghost use lib.ListN.{length};
-
-// How long a piece is: what an uplink packet carries at most.
-const PIECE: usize = 240;
 
 // What every reader is to be lent.
 const LENT: usize = 255;
@@ -19,9 +15,6 @@ const EVERSOLAR: u8 = 2;
 
 const FRONIUS: u8 = 3;
 
-// The check number stays below this.
-const MODULUS: u64 = 65521;
-
 struct Tally {
     messages: u64,
     damages: u64,
@@ -29,44 +22,76 @@ struct Tally {
 }
 
 // Where the piece ends that `at` lies in, the last one having ended at `end`.
-fn piece_end(at: usize, end: usize, len: usize) -> usize
-    requires { ⌜ (at < len) × (at ≤ end) × (end ≤ len) ⌝ }
-    ensures { λ r. ⌜ (at < r) × (r ≤ len) ⌝ }
+fn piece_end(at: usize, end: usize, piece: usize, len: usize) -> usize
+    requires { ⌜ (at ≤ len) × (at ≤ end) × (end ≤ len) ⌝ }
+    ensures { λ r. ⌜ (at ≤ r) × (r ≤ len) ⌝ }
 {
     if at < end {
         end
     } else {
-        if PIECE < len - at { at + PIECE } else { len }
+        if piece < len - at { at + piece } else { len }
     }
 }
 
-// All bytes added up.
-fn total_of(s: &[u8]) -> u64
-    requires { ⌜ length (now s) ≤ 255 ⌝ }
-    ensures { λ r. ⌜ r ≤ 65025 ⌝ }
+fn wide(b: u8) -> u64 {
+    b as u64
+}
+
+// The first `n` bytes added up.
+fn total_of(s: &[u8], n: usize) -> u64
+    requires { ⌜ n ≤ length (now s) ⌝ }
 {
     let mut sum: u64 = 0;
     let mut i: usize = 0;
-    while i < s.len() {
-        sum += s[i] as u64;
+    while i < n {
+        sum = std::num::wrapping_add_u64(sum, wide(s[i]));
         i += 1;
     }
     sum
 }
 
-// The check number after one more message: its place, its code and its data all count.
-fn checked(check: u64, code: u8, content: &[u8]) -> u64
-    requires { ⌜ (check < 65521) × (length (now content) ≤ 255) ⌝ }
-    ensures { λ r. ⌜ r < 65521 ⌝ }
+fn least(a: usize, b: usize) -> usize
+    ensures { λ r. ⌜ r ≤ b ⌝ }
 {
-    (check * 31 + code as u64 + total_of(content)) % MODULUS
+    if a < b { a } else { b }
 }
 
-// One function a family, the same but for its reader and its code byte. The last step is kept whole: its reader goes straight into the
-// next call, which saves a copy of the state.
-fn of_comlynx(input: &[u8], lent: &mut [u8]) -> Tally
-    requires { ⌜ (length (now input) ≤ 65536) × (length (now lent) ≡ 255) ⌝ }
-{
+// The sum of two numbers, modulo 2 to the 64.
+fn plus(a: u64, b: u64) -> u64 {
+    std::num::wrapping_add_u64(a, b)
+}
+
+// One message more, by its code byte and its length. Its place, its code and its data all count in the check number.
+fn one_more(t: Tally, code: u8, len: usize, lent: &[u8]) -> Tally {
+    let told = plus(wide(code), total_of(lent, least(len, lent.len())));
+    Tally {
+        messages: plus(t.messages, 1),
+        damages: t.damages,
+        check: plus(plus(t.check, plus(t.check, t.check)), told),
+    }
+}
+
+// One damage more.
+fn one_worse(t: Tally) -> Tally {
+    Tally {
+        messages: t.messages,
+        damages: plus(t.damages, 1),
+        check: t.check,
+    }
+}
+
+// Two functions a family, the same but for its reader and its code byte: what an answer adds, and the loop over the pieces. The last step is
+// kept whole: its reader goes straight into the next call, which saves a copy of the state. A call that uses nothing is a refusal.
+fn comlynx_told(t: Tally, answer: comlynx::Answer, lent: &[u8]) -> Tally {
+    match answer {
+        comlynx::Answer::Done => t,
+        comlynx::Answer::Message(h) => one_more(t, h.kind, h.len, lent),
+        comlynx::Answer::Damaged(_) => one_worse(t),
+        comlynx::Answer::Refused(_) => t,
+    }
+}
+
+fn of_comlynx(input: &[u8], piece: usize, lent: &mut [u8]) -> Tally {
     let reader = comlynx::Reader::fresh();
     let answer = comlynx::Answer::Done;
     let mut s = comlynx::Step {
@@ -74,41 +99,36 @@ fn of_comlynx(input: &[u8], lent: &mut [u8]) -> Tally
         answer: answer,
         used: 0,
     };
-    let mut messages: u64 = 0;
-    let mut damages: u64 = 0;
-    let mut check: u64 = 0;
+    let mut t = Tally {
+        messages: 0,
+        damages: 0,
+        check: 0,
+    };
     let mut at: usize = 0;
     let mut end: usize = 0;
     while at < input.len() {
-        end = piece_end(at, end, input.len());
+        end = piece_end(at, end, piece, input.len());
         s = s.reader.step(&input[at..end], lent);
+        if s.used == 0 {
+            break;
+        }
         at += s.used;
         let answer = s.answer;
-        match answer {
-            comlynx::Answer::Done => {}
-            comlynx::Answer::Message(h) => {
-                let n = h.len;
-                messages += 1;
-                check = checked(check, h.kind, &lent[..n]);
-            }
-            comlynx::Answer::Damaged(_) => {
-                damages += 1;
-            }
-            comlynx::Answer::Refused(_) => {
-                break;
-            }
-        }
+        t = comlynx_told(t, answer, &*lent);
     }
-    Tally {
-        messages: messages,
-        damages: damages,
-        check: check,
+    t
+}
+
+fn eversolar_told(t: Tally, answer: eversolar::Answer, lent: &[u8]) -> Tally {
+    match answer {
+        eversolar::Answer::Done => t,
+        eversolar::Answer::Message(h) => one_more(t, h.function, h.len, lent),
+        eversolar::Answer::Damaged(_) => one_worse(t),
+        eversolar::Answer::Refused(_) => t,
     }
 }
 
-fn of_eversolar(input: &[u8], lent: &mut [u8]) -> Tally
-    requires { ⌜ (length (now input) ≤ 65536) × (length (now lent) ≡ 255) ⌝ }
-{
+fn of_eversolar(input: &[u8], piece: usize, lent: &mut [u8]) -> Tally {
     let reader = eversolar::Reader::fresh();
     let answer = eversolar::Answer::Done;
     let mut s = eversolar::Step {
@@ -116,41 +136,36 @@ fn of_eversolar(input: &[u8], lent: &mut [u8]) -> Tally
         answer: answer,
         used: 0,
     };
-    let mut messages: u64 = 0;
-    let mut damages: u64 = 0;
-    let mut check: u64 = 0;
+    let mut t = Tally {
+        messages: 0,
+        damages: 0,
+        check: 0,
+    };
     let mut at: usize = 0;
     let mut end: usize = 0;
     while at < input.len() {
-        end = piece_end(at, end, input.len());
+        end = piece_end(at, end, piece, input.len());
         s = s.reader.step(&input[at..end], lent);
+        if s.used == 0 {
+            break;
+        }
         at += s.used;
         let answer = s.answer;
-        match answer {
-            eversolar::Answer::Done => {}
-            eversolar::Answer::Message(h) => {
-                let n = h.len;
-                messages += 1;
-                check = checked(check, h.function, &lent[..n]);
-            }
-            eversolar::Answer::Damaged(_) => {
-                damages += 1;
-            }
-            eversolar::Answer::Refused(_) => {
-                break;
-            }
-        }
+        t = eversolar_told(t, answer, &*lent);
     }
-    Tally {
-        messages: messages,
-        damages: damages,
-        check: check,
+    t
+}
+
+fn fronius_told(t: Tally, answer: fronius::Answer, lent: &[u8]) -> Tally {
+    match answer {
+        fronius::Answer::Done => t,
+        fronius::Answer::Message(h) => one_more(t, h.command, h.len, lent),
+        fronius::Answer::Damaged(_) => one_worse(t),
+        fronius::Answer::Refused(_) => t,
     }
 }
 
-fn of_fronius(input: &[u8], lent: &mut [u8]) -> Tally
-    requires { ⌜ (length (now input) ≤ 65536) × (length (now lent) ≡ 255) ⌝ }
-{
+fn of_fronius(input: &[u8], piece: usize, lent: &mut [u8]) -> Tally {
     let reader = fronius::Reader::fresh();
     let answer = fronius::Answer::Done;
     let mut s = fronius::Step {
@@ -158,50 +173,36 @@ fn of_fronius(input: &[u8], lent: &mut [u8]) -> Tally
         answer: answer,
         used: 0,
     };
-    let mut messages: u64 = 0;
-    let mut damages: u64 = 0;
-    let mut check: u64 = 0;
+    let mut t = Tally {
+        messages: 0,
+        damages: 0,
+        check: 0,
+    };
     let mut at: usize = 0;
     let mut end: usize = 0;
     while at < input.len() {
-        end = piece_end(at, end, input.len());
+        end = piece_end(at, end, piece, input.len());
         s = s.reader.step(&input[at..end], lent);
+        if s.used == 0 {
+            break;
+        }
         at += s.used;
         let answer = s.answer;
-        match answer {
-            fronius::Answer::Done => {}
-            fronius::Answer::Message(h) => {
-                let n = h.len;
-                messages += 1;
-                check = checked(check, h.command, &lent[..n]);
-            }
-            fronius::Answer::Damaged(_) => {
-                damages += 1;
-            }
-            fronius::Answer::Refused(_) => {
-                break;
-            }
-        }
+        t = fronius_told(t, answer, &*lent);
     }
-    Tally {
-        messages: messages,
-        damages: damages,
-        check: check,
-    }
+    t
 }
 
 // The family is chosen once, outside the loop.
-fn tally_of(family: u8, input: &[u8], lent: &mut [u8]) -> Tally
-    requires { ⌜ (length (now input) ≤ 65536) × (length (now lent) ≡ 255) ⌝ }
-{
+fn tally_of(family: u8, input: &[u8], piece: usize, lent: &mut [u8]) -> Tally {
     if family == COMLYNX {
-        return of_comlynx(input, lent);
+        return of_comlynx(input, piece, lent);
     }
     if family == EVERSOLAR {
-        return of_eversolar(input, lent);
+        return of_eversolar(input, piece, lent);
     }
     if family == FRONIUS {
-        return of_fronius(input, lent);
+        return of_fronius(input, piece, lent);
     }
     Tally {
         messages: 0,
@@ -210,11 +211,10 @@ fn tally_of(family: u8, input: &[u8], lent: &mut [u8]) -> Tally
     }
 }
 
-// The first byte of standard input, 0 where there is none.
-fn first_byte() -> u8 {
-    let mut first = [0u8; 1];
-    io::read_full(STDIN_FILENO, &mut first);
-    first[0]
+// How long a piece is.
+fn length_of(high: u8, low: u8) -> usize {
+    let n = high as usize * 256 + low as usize;
+    if n == 0 { 65536 } else { n }
 }
 
 fn print(n: u64, after: &[u8]) {
@@ -222,14 +222,20 @@ fn print(n: u64, after: &[u8]) {
     io::write_all(STDOUT_FILENO, after);
 }
 
-fn main() {
-    let mut input = io::large_buffer();
+fn show(family: u8, piece: usize, input: &[u8]) {
     let mut lent = [0u8; LENT];
-    let family = first_byte();
-    let n = io::read_full(STDIN_FILENO, &mut input);
-    let tally = tally_of(family, &input[..n], &mut lent);
-    print(family as u64, b" ");
+    let tally = tally_of(family, input, piece, &mut lent);
+    print(wide(family), b" ");
     print(tally.messages, b" ");
     print(tally.damages, b" ");
     print(tally.check, b"\n");
+}
+
+fn main() {
+    let mut input = io::large_buffer();
+    let mut first = [0u8; 3];
+    io::read_full(STDIN_FILENO, &mut first);
+    let n = io::read_full(STDIN_FILENO, &mut input);
+    let piece = length_of(first[1], first[2]);
+    show(first[0], piece, &input[..n]);
 }

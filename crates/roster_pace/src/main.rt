@@ -1,42 +1,40 @@
-// Looks in a roster for a serial that nobody has. The first byte of standard input says how often, the rest is the roster.
-// Prints how often it was told that none has it. What a call costs is nearly all the test for 18.
+// Gives an address by a roster, for the bench. The first byte of standard input says how often, the next 16 are the serial, the rest is the
+// roster. Prints the sum of what the calls told, and writes the roster as it is then.
 use libc::STDIN_FILENO;
 use libc::STDOUT_FILENO;
-use roster::Found;
-ghost use Prim.Native.Nat.{_≤_};
+use roster::Given;
 
-// 1 where a call tells that none has the serial.
-fn none_found(all: &[u8], serial: &[u8]) -> u64
-    ensures { λ r. ⌜ r ≤ 1 ⌝ }
-{
-    let found = roster::find(all, serial);
-    match found {
-        Found::Address(address) => if address == 0 { 1 } else { 0 },
-        Found::Refused(_) => 0,
+// What a call told as one number: the address, or its answer number from 1,000 on.
+fn told(given: Given) -> u64 {
+    match given {
+        Given::Address(address) => address as u64,
+        Given::Refused(why) => 1000 + why.number() as u64,
     }
 }
 
-fn looked(all: &[u8], times: u8) -> u64 {
-    let serial = [0xff; roster::SERIAL_SIZE];
-    let mut count: u64 = 0;
+fn given(all: &mut [u8], serial: &[u8], times: u8) -> u64 {
+    let mut sum: u64 = 0;
     let mut n: u8 = 0;
     while n < times {
-        count += none_found(all, &serial);
+        sum = std::num::wrapping_add_u64(sum, told(roster::give(all, serial)));
         n += 1;
     }
-    count
+    sum
 }
 
-fn first_byte() -> u8 {
-    let mut first = [0u8; 1];
-    io::read_full(STDIN_FILENO, &mut first);
-    first[0]
+fn show(all: &mut [u8], serial: &[u8], times: u8) {
+    let sum = given(all, serial, times);
+    io::print_decimal(STDOUT_FILENO, sum);
+    io::write_all(STDOUT_FILENO, b"\n");
+    io::write_all(STDOUT_FILENO, &*all);
 }
 
 fn main() {
     let mut input = io::large_buffer();
-    let times = first_byte();
+    let mut first = [0u8; 1];
+    let mut serial = [0u8; roster::SERIAL_SIZE];
+    io::read_full(STDIN_FILENO, &mut first);
+    io::read_full(STDIN_FILENO, &mut serial);
     let n = io::read_full(STDIN_FILENO, &mut input);
-    io::print_decimal(STDOUT_FILENO, looked(&input[..n], times));
-    io::write_all(STDOUT_FILENO, b"\n");
+    show(&mut input[..n], &serial, first[0]);
 }

@@ -1,0 +1,166 @@
+"""What is counted and what is compared: the programs, their inputs, and what each ratio is held to."""
+from dataclasses import dataclass
+
+import frames
+
+# our program and the C one beside it
+PAIRS = {
+    "reading": ("pace", "plain.c"),
+    "writing": ("write_pace", "writers.c"),
+    "giving": ("roster_pace", "roster.c"),
+    "listing": ("sbrlist", "listing.c"),
+}
+
+NAMES = {"comlynx": "ComLynx", "eversolar": "Eversolar", "fronius": "Fronius"}
+PIECES = (1, 16, 240, 65536)
+# The limits: 1.0 where that is asked for, which is at 240 bytes a piece but for frames with no data, and for the listing of a clean day of all ports.
+# Elsewhere what it comes to today, rounded up, so that a growth is noticed.
+READING = {
+    ("comlynx", 10): (3.5, 1.3, 1.0, 0.9),
+    ("comlynx", 66): (3.5, 1.1, 1.0, 0.6),
+    ("comlynx", 255): (3.5, 1.0, 1.0, 0.4),
+    ("eversolar", 0): (3.6, 1.6, 1.4, 1.3),
+    ("eversolar", 66): (3.4, 0.9, 1.0, 0.4),
+    ("eversolar", 255): (3.4, 0.8, 1.0, 0.3),
+    ("fronius", 0): (3.5, 1.6, 1.6, 1.6),
+    ("fronius", 66): (3.8, 1.0, 1.0, 0.5),
+    ("fronius", 127): (3.8, 1.0, 1.0, 0.4),
+}
+WRITING = {
+    ("comlynx", 10): 1.3,
+    ("comlynx", 66): 1.2,
+    ("comlynx", 255): 1.2,
+    ("eversolar", 0): 0.4,
+    ("eversolar", 66): 1.4,
+    ("eversolar", 255): 1.7,
+    ("fronius", 0): 0.4,
+    ("fronius", 66): 2.4,
+    ("fronius", 127): 3.6,
+}
+CHECKSUM = {16: 1.7, 255: 1.1, 4096: 1.1}
+GIVING = {0: 1.1, 127: 1.1, 254: 1.1}
+DAYS = {  # ports, one line byte in how many is changed, packets, limit
+    "clean": (frames.PORTS, 0, 512, 1.0),
+    "clean, a quarter of it": (frames.PORTS, 0, 128, 1.0),
+    "damaged": (frames.PORTS, 60, 512, 1.1),
+    "clean, ComLynx alone": ((1,), 0, 128, 0.7),
+    "clean, Eversolar alone": ((2,), 0, 128, 0.6),
+    "clean, Fronius alone": ((3,), 0, 128, 1.8),
+}
+
+
+@dataclass(frozen=True)
+class Row:
+    """One row of the table: what both programs take for `more`, less what they take for `less`, a unit."""
+
+    part: str  # the table that it stands in
+    labels: tuple
+    pair: str
+    less: bytes
+    more: bytes
+    units: int
+    limit: float
+    wrote: str = None  # what is to be written for `more`, where that is known
+    frames: int = None  # where units are not frames, and it is wanted
+
+
+def word(n):
+    return (n % 65536).to_bytes(2, "big")
+
+
+def reading():
+    for (family, data), limits in READING.items():
+        for piece, limit in zip(PIECES, limits):
+            # a byte that begins no frame; with no byte at all less is read
+            head = bytes([frames.FAMILIES[family][0]]) + word(piece)
+            text, messages, line = frames.stream(family, data, max(piece, 8192))
+            yield Row("reading", (NAMES[family], data, piece), "reading", head + b"\0", head + text, len(text) - 1, limit, line, messages)
+
+
+def writing_input(what, times, data, room=600):
+    return bytes([what]) + word(times) + word(room) + b"\4" + data  # the byte looked at: the fifth
+
+
+def some_data(count):
+    """Data that differ, a few of them to be stuffed."""
+    return bytes((k * 73 + 5) % 256 for k in range(count))
+
+
+def calls(part, labels, what, data, limit, times=32):
+    less, more = (writing_input(what, n, data) for n in (1, 1 + times))
+    return Row(part, labels, "writing", less, more, times, limit)
+
+
+def writing():
+    for (family, data), limit in WRITING.items():
+        yield calls("writing", (NAMES[family], data), frames.FAMILIES[family][0], some_data(data), limit)
+
+
+def checksum():
+    for count, limit in CHECKSUM.items():
+        yield calls("checksum", (count,), 4, some_data(count), limit)
+
+
+def roster(used):
+    """Serials that differ in their last bytes alone, as those of one maker do."""
+    return bytes(b for k in range(used) for b in [1] + [7] * 14 + list(word(k))) + bytes(17 * (254 - used))
+
+
+def giving_input(times, all_places, serial=bytes([255]) * 16):
+    return bytes([times]) + serial + all_places
+
+
+def giving():
+    for used, limit in GIVING.items():
+        less, more = (giving_input(n, roster(used)) for n in (0, 1))
+        yield Row("giving", (used,), "giving", less, more, 1, limit)
+
+
+def listing():
+    for what, (ports, every, packets, limit) in DAYS.items():
+        all_day = frames.day(packets, every, ports)
+        one = all_day[:frames.LINE + 7]
+        if every:
+            one, all_day = (text + b"SBS" for text in (one, all_day))  # what follows is no packet, and stops the listing
+        yield Row("listing", (what,), "listing", one, all_day, len(all_day) - len(one), limit)
+
+
+def rows():
+    for part in (reading, writing, checksum, giving, listing):
+        yield from part()
+
+
+def alike():
+    """Inputs on which nothing is counted: the pair, what it is, the input, and whether messages and damages are both to be told."""
+    for family, (number, _, most) in frames.FAMILIES.items():
+        for data, every in ((10, 20), (66, 60), (120, 200)):
+            text = frames.spoilt(frames.stream(family, data, frames.MOST)[0], every)
+            for piece in (1, 16, 240, 65536):
+                what = f"{NAMES[family]} with {data} data bytes, one in {every} changed, in pieces of {piece}"
+                yield "reading", what, bytes([number]) + word(piece) + text, True
+        for count in (0, 1, most, most + 1):
+            for data in (some_data(count), bytes(frames.SPECIAL[k % 3] for k in range(count))):
+                for room in (0, 7, count + 8, count + 11, count + 12, 2 * count + 12, 600):
+                    what = f"{NAMES[family]}, {count} data bytes written into {room}"
+                    yield "writing", what, writing_input(number, 3, data, room), False
+    for count in (0, 1, 2, 255, 4096, 60000):
+        yield "writing", f"checksum of {count} bytes", writing_input(4, 3, some_data(count)), False
+    sound, full = roster(100), roster(254)
+    freed = full[:17 * 30] + bytes(17) + full[17 * 31:]
+    for what, text in (
+        ("sound", sound),
+        ("full", full),
+        ("with a place freed", freed),
+        ("too short", sound[:-1]),
+        ("too long", sound + b"\0"),
+        ("with a mark of 2", b"\2" + sound[1:]),
+        ("with a free place that is not zero", sound[:-1] + b"\1"),
+        ("with a serial twice", sound[:17] + sound[:17] + sound[34:]),
+        ("with a serial twice, first and last", full[:-17] + full[:17]),
+    ):
+        for serial in (bytes([255]) * 16, sound[18:34], bytes(16)):
+            yield "giving", f"roster {what}, serial {serial.hex()}", giving_input(3, text, serial), False
+    for every in (20, 60, 200):
+        yield "listing", f"listing, one byte in {every} changed", frames.day(300, every), True
+    for what, text in frames.refused():
+        yield "listing", f"listing, {what}", text, False

@@ -1,0 +1,229 @@
+/* The writers of document 01 and the ComLynx checksum in plain C, for the bench to measure beside. Reads what `write_pace` reads, and
+ * writes what it writes. No header is at hand where this is built. */
+typedef unsigned char u8;
+typedef unsigned short u16;
+typedef unsigned int u32;
+typedef unsigned long size;
+
+long read(int file, void *to, size most);
+long write(int file, const void *from, size count);
+void *memcpy(void *to, const void *from, size count);
+
+/* document 01's answer numbers */
+enum { TOO_LONG = 8, NO_ROOM = 9 };
+
+/* the length written, or the answer number where it is refused */
+struct written {
+    size length;
+    int refused;
+};
+
+static struct written refused(int number)
+{
+    return (struct written){0, number};
+}
+
+static struct written done(size length)
+{
+    return (struct written){length, 0};
+}
+
+/* ---- ComLynx */
+
+enum { CL_HEADER = 8, CL_DATA = 255, CL_BODY = CL_HEADER + CL_DATA + 2 };
+enum { FLAG = 0x7e, ESCAPE = 0x7d };
+
+#include "fcs.h"
+
+static int special(u8 b)
+{
+    return b == FLAG || b == ESCAPE;
+}
+
+/* The body is put together first, since its checksum may take stuffing and the exact length is tested before anything is stored. */
+static struct written comlynx_write(u16 source, u16 destination, u8 kind, const u8 *data, size n, u8 *to, size room)
+{
+    u8 body[CL_BODY];
+    size len = CL_HEADER + n + 2, frame = len + 2;
+    if (CL_DATA < n)
+        return refused(TOO_LONG);
+    body[0] = 0xff;
+    body[1] = 0x03;
+    body[2] = (u8)(source >> 8);
+    body[3] = (u8)source;
+    body[4] = (u8)(destination >> 8);
+    body[5] = (u8)destination;
+    body[6] = (u8)n;
+    body[7] = kind;
+    memcpy(body + CL_HEADER, data, n);
+    u16 sum = fcs(body, CL_HEADER + n);
+    body[CL_HEADER + n] = (u8)sum;
+    body[CL_HEADER + n + 1] = (u8)(sum >> 8);
+    for (size i = 0; i < len; i++)
+        frame += (size)special(body[i]);
+    if (room < frame)
+        return refused(NO_ROOM);
+    *to++ = FLAG;
+    for (size i = 0; i < len; i++) {
+        u8 b = body[i];
+        if (special(b)) {
+            *to++ = ESCAPE;
+            b ^= 0x20;
+        }
+        *to++ = b;
+    }
+    *to = FLAG;
+    return done(frame);
+}
+
+/* ---- Eversolar */
+
+enum { ES_FRONT = 9, ES_DATA = 255 };
+
+static struct written eversolar_write(const u8 source[2], const u8 destination[2], u8 control, u8 function, const u8 *data, size n, u8 *to, size room)
+{
+    size frame = ES_FRONT + n + 2;
+    if (ES_DATA < n)
+        return refused(TOO_LONG);
+    if (room < frame)
+        return refused(NO_ROOM);
+    to[0] = 0xaa;
+    to[1] = 0x55;
+    to[2] = source[0];
+    to[3] = source[1];
+    to[4] = destination[0];
+    to[5] = destination[1];
+    to[6] = control;
+    to[7] = function;
+    to[8] = (u8)n;
+    memcpy(to + ES_FRONT, data, n);
+    u32 sum = 0;
+    for (size i = 0; i < ES_FRONT + n; i++)
+        sum += to[i];
+    to[ES_FRONT + n] = (u8)sum;
+    to[ES_FRONT + n + 1] = (u8)(sum >> 8);
+    return done(frame);
+}
+
+/* ---- Fronius */
+
+enum { FR_START = 3, FR_FRONT = FR_START + 4, FR_DATA = 127 };
+
+static struct written fronius_write(u8 device, u8 number, u8 command, const u8 *data, size n, u8 *to, size room)
+{
+    size frame = FR_FRONT + n + 1;
+    if (FR_DATA < n)
+        return refused(TOO_LONG);
+    if (room < frame)
+        return refused(NO_ROOM);
+    to[0] = 0x80;
+    to[1] = 0x80;
+    to[2] = 0x80;
+    to[3] = (u8)n;
+    to[4] = device;
+    to[5] = number;
+    to[6] = command;
+    memcpy(to + FR_FRONT, data, n);
+    u8 sum = 0;
+    for (size i = FR_START; i < FR_FRONT + n; i++)
+        sum = (u8)(sum + to[i]);
+    to[FR_FRONT + n] = sum;
+    return done(frame);
+}
+
+/* ---- the host: as `write_pace` */
+
+enum { INPUT = 65536, LENT = 600 };
+
+/* with the byte looked at: nobody knows before which it is, so that no call can be left out whose bytes the next one writes over */
+static size told(struct written w, const u8 *lent, size room, size look)
+{
+    if (w.refused)
+        return 1000 + (size)w.refused;
+    return w.length + (look < room ? lent[look] : 0);
+}
+
+static size comlynx_frames(size times, const u8 *data, size n, u8 *lent, size room, size look)
+{
+    size sum = 0;
+    for (size k = 0; k < times; k++)
+        sum += told(comlynx_write((u16)k, 0x11ff, 0x15, data, n, lent, room), lent, room, look);
+    return sum;
+}
+
+static size eversolar_frames(size times, const u8 *data, size n, u8 *lent, size room, size look)
+{
+    static const u8 master[2] = {1, 0};
+    size sum = 0;
+    for (size k = 0; k < times; k++) {
+        u8 destination[2] = {(u8)(k >> 8), (u8)k};
+        sum += told(eversolar_write(master, destination, 0x11, 0x02, data, n, lent, room), lent, room, look);
+    }
+    return sum;
+}
+
+static size fronius_frames(size times, const u8 *data, size n, u8 *lent, size room, size look)
+{
+    size sum = 0;
+    for (size k = 0; k < times; k++)
+        sum += told(fronius_write(1, (u8)(k >> 8), (u8)k, data, n, lent, room), lent, room, look);
+    return sum;
+}
+
+/* each checksum goes on from the one before, so that none can be left out */
+static size checksums(size times, const u8 *data, size n)
+{
+    u16 state = 0xffff;
+    for (size k = 0; k < times; k++)
+        state = fcs_more(state, data, n);
+    return state;
+}
+
+static size read_full(u8 *to, size most)
+{
+    size len = 0;
+    long more;
+    while (len < most && (more = read(0, to + len, most - len)) > 0)
+        len += (size)more;
+    return len;
+}
+
+static void print(size n, char after)
+{
+    char text[21];
+    size at = 20;
+    text[20] = after;
+    do {
+        text[--at] = (char)('0' + n % 10);
+        n /= 10;
+    } while (n);
+    write(1, text + at, 21 - at);
+}
+
+int main(void)
+{
+    static u8 input[INPUT];
+    u8 lent[LENT] = {0}, first[6] = {0};
+    read_full(first, 6);
+    size len = read_full(input, INPUT), sum = 0;
+    size times = (size)(first[1] << 8 | first[2]), room = (size)(first[3] << 8 | first[4]);
+    if (LENT < room)
+        room = LENT;
+    switch (first[0]) {
+    case 1:
+        sum = comlynx_frames(times, input, len, lent, room, first[5]);
+        break;
+    case 2:
+        sum = eversolar_frames(times, input, len, lent, room, first[5]);
+        break;
+    case 3:
+        sum = fronius_frames(times, input, len, lent, room, first[5]);
+        break;
+    case 4:
+        sum = checksums(times, input, len);
+        break;
+    }
+    print(sum, '\n');
+    write(1, lent, room);
+    return 0;
+}
