@@ -8,7 +8,6 @@ pub mod Frame
 pub mod Only
 pub mod Store
 pub mod Writing
-pub mod Address
 pub mod Facts
 pub mod Demands
 pub mod One

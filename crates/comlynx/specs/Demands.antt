@@ -9,7 +9,6 @@ use lib.Dec.{T, eqb}
 use lib.Pow.{areBytes}
 use Rattle.answers.specs.Written.{lengthOf}
 use Rattle.answers.specs.declared.Written.{Written}
-use Rattle.answers.specs.Answer.{answer}
 use Rattle.stream.specs.Event.{message}
 use Rattle.stream.specs.Call.{seenBy}
 use Rattle.stream.specs.Family.{Family}
@@ -19,10 +18,8 @@ use Rattle.comlynx.specs.Rules.{judge, rule}
 use Rattle.comlynx.specs.Machine.{fresh}
 use Rattle.comlynx.specs.Reader.{join, shown, IsStep}
 use Rattle.comlynx.specs.Writer.{IsWritten}
-use Rattle.comlynx.specs.Meaning.{addressOf, wordOf}
 use Rattle.comlynx.specs.declared.reader.Reader.{Reader}
 use Rattle.comlynx.specs.declared.reader.Step.{Step}
-use Rattle.comlynx.specs.declared.meaning.Address.{Address}
 
 -- what is known is whether a flag was just seen: at the start none was; after an event the flag that settled it was
 abbrev pub comlynx : Family
@@ -95,13 +92,3 @@ abbrev pub Room : Type 0
 Room =
     (m : Message) → length (m .bytes) ≤ dataMax
     → (length (wire m) ≡ 12 + length (m .bytes) + special (body m)) × (length (wire m) ≤ 532)
-
--- an address's parts and back: each way undoes the other
-abbrev pub ThereAndBack : Type 0
-ThereAndBack =
-    ((word : ℕ) → word < 65536 → wordOf (addressOf word) ≡ answer 0 (word ∷ []))
-    × ((a : Address) (word : ℕ) → a .node < 256 → wordOf a ≡ answer 0 (word ∷ []) → addressOf word ≡ a)
-
--- 11 FF is every node of network 1, subnet 1
-abbrev pub EveryNode : Type 0
-EveryNode = addressOf 0x11FF ≡ record { network = 1; subnet = 1; node = 255 }

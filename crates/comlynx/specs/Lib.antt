@@ -3,6 +3,5 @@ pub mod Rules
 pub mod Machine
 pub mod Reader
 pub mod Writer
-pub mod Meaning
 pub mod Inside
 pub mod Demands

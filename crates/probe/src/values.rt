@@ -8,9 +8,9 @@ use crate::wire::put_quad;
 use crate::wire::put_word;
 use crate::wire::quad_at;
 use crate::wire::word_at;
-use comlynx::Address;
-use comlynx::Addressed;
-use comlynx::Meaning;
+use comlynx_meaning::Address;
+use comlynx_meaning::Addressed;
+use comlynx_meaning::Meaning;
 use eversolar_values::Energy;
 use eversolar_values::Wait;
 use fronius_values::measured::Measured;
@@ -37,11 +37,14 @@ fn put_meaning(out: &mut [u8], meaning: Meaning) -> usize {
 }
 
 pub(crate) fn meaning(s: &[u8], out: &mut [u8]) -> usize {
-    put_meaning(out, comlynx::meaning_of(byte_at(s, 1), list_at(s, 2)))
+    put_meaning(
+        out,
+        comlynx_meaning::meaning_of(byte_at(s, 1), list_at(s, 2)),
+    )
 }
 
 pub(crate) fn address(s: &[u8], out: &mut [u8]) -> usize {
-    let a = comlynx::address_of(word_at(s, 1));
+    let a = comlynx_meaning::address_of(word_at(s, 1));
     three(out, 0, a.network, a.subnet, a.node)
 }
 
@@ -57,7 +60,7 @@ pub(crate) fn word_of_address(s: &[u8], out: &mut [u8]) -> usize {
         subnet: byte_at(s, 2),
         node: byte_at(s, 3),
     };
-    let addressed = comlynx::word_of(a);
+    let addressed = comlynx_meaning::word_of(a);
     match addressed {
         Addressed::Word(w) => put_word_result(out, 0, w),
         Addressed::Refused(why) => put_word_result(out, why.number(), 0),

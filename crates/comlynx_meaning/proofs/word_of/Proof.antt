@@ -1,16 +1,15 @@
 use mathlib.Core.Bool.{_&&_}
 use mathlib.Core.List.{[], _∷_}
 use lib.Dec.{leb}
-use borrow.Author.Tests.{leb-true}
 use Rattle.answers.specs.Answer.{answer}
-use Rattle.comlynx.specs.Meaning.{wordOf}
-use Rattle.comlynx.proofs.Judge.{both}
+use Rattle.comlynx_meaning.specs.Meaning.{wordOf}
+use Rattle.comlynx_meaning.proofs.Parts.{four-bits}
 use Prim.Native.Nat.{ℕ}
 use mathlib.Core.Path.{_≡_, sym, _∙_, ap}
 use mathlib.Core.Bool.{true}
 use borrow.Author.Needs.{needs}
-use Rattle.comlynx.proofs.meaning.word_of.Statement.{statement}
-use Rattle.comlynx.proofs.meaning.word_of.Tie as tie
+use Rattle.comlynx_meaning.proofs.word_of.Statement.{statement}
+use Rattle.comlynx_meaning.proofs.word_of.Tie as tie
 
 -- what the test told
 fit : (c : tie.Then1) → leb (c .before .before .args .a .network) 15 && leb (c .before .before .args .a .subnet) 15 ≡ true
@@ -20,10 +19,7 @@ fits-requires : tie.Need-fits-requires
 fits-requires c κs = search needs
 
 join-requires : tie.Need-join-requires
-join-requires c κs =
-    let a = c .before .before .args .a in
-    let t = both (leb (a .network) 15) (leb (a .subnet) 15) (fit c) in
-    (leb-true (a .network) 15 (t .0), leb-true (a .subnet) 15 (t .1))
+join-requires c κs = four-bits (c .before .before .args .a .network) (c .before .before .args .a .subnet) (fit c)
 
 returns : tie.Need-returns
 unfolding wordOf

@@ -2,9 +2,9 @@
 use answers::Refusal;
 ghost use Prim.Native.Nat.{_+_, _*_, _≤_};
 ghost use mathlib.Core.Path.{_≡_};
-ghost use mathlib.Core.Bool.{_&&_};
+ghost use mathlib.Core.Bool.{cond, _&&_};
 ghost use lib.Dec.{leb};
-ghost use Rattle.comlynx.specs.Meaning.{isReply, isTransmission, isApplication, IsMeaning, IsAddress, IsWord};
+ghost use Rattle.comlynx_meaning.specs.Meaning.{told, transmissionError, applicationError, coded, IsMeaning, IsAddress, IsWord};
 
 pub enum Meaning {
     // with its id
@@ -16,25 +16,18 @@ pub enum Meaning {
     Refused(Refusal),
 }
 
-// Bit 7.
-fn is_reply(kind: u8) -> bool
-    ensures { λ r. ⌜ r ≡ isReply kind ⌝ }
+// An error reply: its code is its one data byte.
+fn error_of(transmission: bool, id: u8, data: &[u8]) -> Meaning
+    ensures { λ r. ⌜ told r ≡ coded (cond transmission (transmissionError id) (applicationError id)) (now («data» .entry)) ⌝ }
 {
-    kind / 128 % 2 == 1
-}
-
-// Bit 6.
-fn is_transmission(kind: u8) -> bool
-    ensures { λ r. ⌜ r ≡ isTransmission kind ⌝ }
-{
-    kind / 64 % 2 == 1
-}
-
-// Bit 5.
-fn is_application(kind: u8) -> bool
-    ensures { λ r. ⌜ r ≡ isApplication kind ⌝ }
-{
-    kind / 32 % 2 == 1
+    if data.len() != 1 {
+        return Meaning::Refused(Refusal::Unfit);
+    }
+    let code = data[0];
+    if transmission {
+        return Meaning::TransmissionError(id, code);
+    }
+    Meaning::ApplicationError(id, code)
 }
 
 // The meaning of any type byte with any data.
@@ -42,28 +35,20 @@ pub fn meaning_of(kind: u8, data: &[u8]) -> Meaning
     ensures { λ r. ⌜ IsMeaning kind (now («data» .entry)) r ⌝ }
 {
     let id = kind % 32;
-    let transmission = is_transmission(kind);
-    let application = is_application(kind);
-    if is_reply(kind) {
-        if transmission {
-            if application {
-                return Meaning::Refused(Refusal::Unfit);
-            }
-            if data.len() != 1 {
-                return Meaning::Refused(Refusal::Unfit);
-            }
-            return Meaning::TransmissionError(id, data[0]);
-        }
-        if application {
-            if data.len() != 1 {
-                return Meaning::Refused(Refusal::Unfit);
-            }
-            return Meaning::ApplicationError(id, data[0]);
-        }
-        return Meaning::Reply(id);
-    }
-    if transmission | application {
+    // bits 7, 6 and 5
+    let reply = kind / 128 % 2 == 1;
+    let transmission = kind / 64 % 2 == 1;
+    let application = kind / 32 % 2 == 1;
+    let error = transmission | application;
+    let both = transmission & application;
+    if both | (error & !reply) {
         return Meaning::Refused(Refusal::Unfit);
+    }
+    if error {
+        return error_of(transmission, id, data);
+    }
+    if reply {
+        return Meaning::Reply(id);
     }
     Meaning::Request(id)
 }

@@ -10,11 +10,11 @@ use Rattle.answers.specs.Answer.{Answer, answer}
 use Rattle.answers.specs.Refusal as Refusal
 use Rattle.answers.specs.declared.Refusal.{Refusal}
 use Rattle.answers.specs.declared.Refusal.the-variants.{OutOfRange, Unfit}
-use Rattle.comlynx.specs.declared.meaning.Meaning.{Meaning}
-use Rattle.comlynx.specs.declared.meaning.Meaning.the-variants.{Request, Reply, TransmissionError, ApplicationError, Refused}
-use Rattle.comlynx.specs.declared.meaning.Address.{Address}
-use Rattle.comlynx.specs.declared.meaning.Addressed.{Addressed}
-use Rattle.comlynx.specs.declared.meaning.Addressed.the-variants.{Word, Refused as NoWord}
+use Rattle.comlynx_meaning.specs.declared.Meaning.{Meaning}
+use Rattle.comlynx_meaning.specs.declared.Meaning.the-variants.{Request, Reply, TransmissionError, ApplicationError, Refused}
+use Rattle.comlynx_meaning.specs.declared.Address.{Address}
+use Rattle.comlynx_meaning.specs.declared.Addressed.{Addressed}
+use Rattle.comlynx_meaning.specs.declared.Addressed.the-variants.{Word, Refused as NoWord}
 
 -- ---- the type byte
 

@@ -1,19 +1,25 @@
 -- The parts of an address, and the address again.
 -- Assumes nothing.
-use Prim.Native.Nat.{ℕ, _+_, _*_, _/_, _%_, _<_}
-use mathlib.Core.Path.{_≡_, refl, ap}
+use Prim.Native.Nat.{ℕ, _+_, _*_, _/_, _%_, _≤_, _<_}
+use mathlib.Core.Path.{_≡_, refl, sym, ap, subst}
 use mathlib.Core.Bool.{Bool, true, false, cond, _&&_}
 use mathlib.Core.List.{[], _∷_}
-use lib.Dec.{leb}
-use borrow.Author.Tests.{le-leb, leb-true}
+use lib.Dec.{T, leb, leb→le}
+use store.Enc.{and-l, and-r}
+use borrow.Author.Tests.{le-leb}
 use native.Mathlib.Omega.{arith}
 use Rattle.answers.specs.Answer.{answer}
 use Rattle.answers.specs.Refusal as Refusal
 use Rattle.answers.specs.declared.Refusal.the-variants.{OutOfRange}
-use Rattle.comlynx.specs.Meaning.{addressOf, wordOf}
-use Rattle.comlynx.specs.Demands.{ThereAndBack, EveryNode}
-use Rattle.comlynx.specs.declared.meaning.Address.{Address}
-use Rattle.comlynx.proofs.Judge.{both}
+use Rattle.comlynx_meaning.specs.Meaning.{addressOf, wordOf}
+use Rattle.comlynx_meaning.specs.Demands.{ThereAndBack, EveryNode}
+use Rattle.comlynx_meaning.specs.declared.Address.{Address}
+
+-- what the test of network and subnet tells
+pub four-bits : (network subnet : ℕ) → leb network 15 && leb subnet 15 ≡ true → (network ≤ 15) × (subnet ≤ 15)
+four-bits network subnet e =
+    let t = subst T (sym e) tt in
+    (leb→le network 15 (and-l (leb network 15) (leb subnet 15) t), leb→le subnet 15 (and-r (leb network 15) (leb subnet 15) t))
 
 there : (word : ℕ) → word < 65536 → wordOf (addressOf word) ≡ answer 0 (word ∷ [])
 unfolding wordOf
@@ -28,9 +34,9 @@ back a word h e = go (leb (a .network) 15 && leb (a .subnet) 15) refl e
     go : (t : Bool) → leb (a .network) 15 && leb (a .subnet) 15 ≡ t
         → cond t (answer 0 ((a .network * 4096 + a .subnet * 256 + a .node) ∷ [])) (Refusal.refused 1 OutOfRange) ≡ answer 0 (word ∷ []) → addressOf word ≡ a
     go true f e =
-        let t = both (leb (a .network) 15) (leb (a .subnet) 15) f in
-        let n = leb-true (a .network) 15 (t .0) in
-        let s = leb-true (a .subnet) 15 (t .1) in
+        let t = four-bits (a .network) (a .subnet) f in
+        let n = t .0 in
+        let s = t .1 in
         let sum : a .network * 4096 + a .subnet * 256 + a .node ≡ word = cc in
         let network : word / 4096 ≡ a .network = omega arith in
         let subnet : word / 256 % 16 ≡ a .subnet = omega arith in
