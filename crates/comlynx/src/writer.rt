@@ -38,24 +38,24 @@ fn head_of(source: u16, destination: u16, size: u8, kind: u8) -> [u8; Reader::HE
 }
 
 // How many bytes a byte takes, stuffed.
-fn width(b: u8) -> usize
+fn width(b: u8) -> u16
     ensures { λ r. ⌜ r ≡ length (stuffed (b ∷ [])) ⌝ }
 {
     if (b == FLAG) | (b == ESCAPE) { 2 } else { 1 }
 }
 
-// How many bytes a body's part takes, stuffed.
+// How many bytes a body's part takes, stuffed. Counted in 16 bits, so that eight bytes are looked at together.
 fn stuffed_len(s: &[u8]) -> usize
     requires { ⌜ length (now s) ≤ dataMax ⌝ }
     ensures { λ r. ⌜ (r ≡ length (stuffed (now (s .entry)))) × (r ≤ 510) ⌝ }
 {
-    let mut n: usize = 0;
+    let mut n: u16 = 0;
     let mut i: usize = 0;
     while i < s.len() {
         n += width(s[i]);
         i += 1;
     }
-    n
+    n as usize
 }
 
 // Stores a byte, stuffed; gives the place after it.

@@ -142,18 +142,18 @@ fn advance(stage: u8, count: usize, len: usize) -> Move
     Move::Close
 }
 
-// The `n` bytes of `s` from `from` on added up.
+// The `n` bytes of `s` from `from` on added up. 255 bytes come to less than 65,536, and in 16 bits eight are added at once.
 fn total_of(s: &[u8], from: usize, n: usize) -> usize
     requires { ⌜ (from + n ≤ length (now s)) × (n ≤ dataMax) × (from ≤ dataMax) ⌝ }
     ensures { λ r. ⌜ (r ≡ total (take n (drop from (now (s .entry))))) × (r ≤ 256 * n) ⌝ }
 {
-    let mut sum: usize = 0;
+    let mut sum: u16 = 0;
     let mut i: usize = 0;
     while i < n {
-        sum += s[from + i] as usize;
+        sum += s[from + i] as u16;
         i += 1;
     }
-    sum
+    sum as usize
 }
 
 // The checksum of a frame by its length and the bytes since AA 55 at the front of `s`. The length is not looked up in `s`, where a reader may have left anything.

@@ -1,7 +1,7 @@
 // The streaming reader: bytes go in by pieces, messages and damages come out, whatever the pieces.
 use answers::Damage;
 use answers::Refusal;
-ghost use Prim.Native.Nat.{min, _+_, _*_, _≤_};
+ghost use Prim.Native.Nat.{min, _+_, _*_, _%_, _≤_};
 ghost use mathlib.Core.Path.{_≡_};
 ghost use mathlib.Core.Bool.{true};
 ghost use mathlib.Core.List.{_∷_, _++_};
@@ -103,15 +103,15 @@ fn advance(stage: u8, count: usize, len: usize, b: u8) -> Move
     Move::Close
 }
 
-// The first `n` bytes of `s` added up.
-fn total_of(s: &[u8], n: usize) -> usize
-    requires { ⌜ (n ≤ length (now s)) × (n ≤ bodyMax) ⌝ }
-    ensures { λ r. ⌜ (r ≡ total (take n (now (s .entry)))) × (r ≤ 256 * bodyMax) ⌝ }
+// The first `n` bytes of `s` added up, modulo 256 at each step, so that 16 are added at once.
+fn total_of(s: &[u8], n: usize) -> u8
+    requires { ⌜ n ≤ length (now s) ⌝ }
+    ensures { λ r. ⌜ r ≡ total (take n (now (s .entry))) % 256 ⌝ }
 {
-    let mut sum: usize = 0;
+    let mut sum: u8 = 0;
     let mut i: usize = 0;
     while i < n {
-        sum += s[i] as usize;
+        sum = ((sum as u16 + s[i] as u16) % 256) as u8;
         i += 1;
     }
     sum
@@ -122,7 +122,7 @@ pub(crate) fn checksum_of(len: usize, s: &[u8]) -> u8
     requires { ⌜ (3 + len ≤ length (now s)) × (len ≤ dataMax) ⌝ }
     ensures { λ r. ⌜ r ≡ checksum (len ∷ take (3 + len) (now (s .entry))) ⌝ }
 {
-    let sum = len + total_of(s, HEADER + len);
+    let sum = len + total_of(s, HEADER + len) as usize;
     (sum % 256) as u8
 }
 

@@ -39,6 +39,9 @@ loop-again c =
     let s = c .before .before .before .before .before .args .s .now in
     (omega arith, omega (arith, left-length s (c .before .before .before .loop .i) (omega arith), c .width .ensures))
 
+cast-result : tie.Need-cast-result Inv-loop μ-loop
+cast-result c = omega (arith, stuffed-most (c .before .before .before .args .s .now))
+
 returns : tie.Need-returns Inv-loop μ-loop
 returns c =
     let s = c .before .before .before .args .s .now in
@@ -58,4 +61,5 @@ stuffed-len-spec =
     add-i
     loop-less
     loop-again
+    cast-result
     returns)

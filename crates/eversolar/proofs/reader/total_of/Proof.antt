@@ -49,6 +49,9 @@ loop-again c =
     let one = byte c in
     (omega arith, omega arith, omega arith)
 
+cast-result : tie.Need-cast-result Inv-loop μ-loop
+cast-result c = search needs
+
 returns : tie.Need-returns Inv-loop μ-loop
 returns c =
     let a = c .before .before .args in
@@ -69,4 +72,5 @@ total-of-spec =
     add-i
     loop-less
     loop-again
+    cast-result
     returns)
