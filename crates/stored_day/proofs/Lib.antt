@@ -7,3 +7,4 @@ pub mod Makes
 pub mod Ports
 pub mod Day
 pub mod Demands
+pub mod Cases
