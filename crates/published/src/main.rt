@@ -1,144 +1,67 @@
 // Runs the published examples through reader and writer. Standard input is records, each a printed frame and what its document says that it is
 // (tests/published-frames makes them). Prints a line for each: document, the frame's number there, the answer, what was read, the verdict.
-use answers::Written;
+mod families;
+mod parts;
+
+use families::READ;
+use families::length_of;
+use families::read;
+use families::write;
 use libc::STDIN_FILENO;
 use libc::STDOUT_FILENO;
+use parts::byte_at;
+use parts::part;
+use parts::size_at;
 
-// A record: its front, then room for data and room for a frame. The front: document, number, what is to be read, and how many of the frame's bytes
-// are printed.
+// A record: its front, then room for data and room for a frame. The front: document, number, what is to be read (as `families` has it, so
+// how many bytes of the data and of the frame count is there too), and how many of the frame's bytes are printed.
 const FRONT: usize = 12;
 
 const DATA: usize = 48;
 
 const FRAME: usize = 64;
 
-// How many records are read at most.
-const RECORDS: usize = 1000;
+const RECORD: usize = FRONT + DATA + FRAME;
 
-// What is read, as bytes: the answer, from, to and code (two each; what a family has not of them is 0), how many data bytes there are, and how many
-// bytes of the frame were used.
-const READ: usize = 9;
+const NUMBER: usize = 1;
+
+const TO_READ: usize = 2;
+
+const PRINTED: usize = 11;
+
+// Places in what is read.
+const DATA_SIZE: usize = 7;
+
+const USED: usize = 8;
 
 // What every reader is to be lent.
 const LENT: usize = 255;
 
-// The families, by the number of their document.
-const COMLYNX: u8 = 0;
-
-const EVERSOLAR: u8 = 1;
-
 // The answer with which a message is given.
 const MESSAGE: u8 = 1;
 
-fn word(high: u8, low: u8) -> u16 {
-    high as u16 * 256 + low as u16
+// How many records are read at most.
+const RECORDS: usize = 1000;
+
+fn data_of(record: &[u8]) -> &[u8] {
+    part(record, FRONT, size_at(record, TO_READ + DATA_SIZE))
 }
 
-// The low byte. Counts are below 256 in all that fits into a record.
-fn byte(n: usize) -> u8 {
-    (n % 256) as u8
+fn frame_of(record: &[u8]) -> &[u8] {
+    part(record, FRONT + DATA, size_at(record, TO_READ + USED))
 }
 
-fn wide(b: u8) -> usize {
-    b as usize
+// Whether what was read is what the document says, with its data.
+fn reads(record: &[u8], got: &[u8], lent: &[u8]) -> bool {
+    let data = data_of(record);
+    check::same(got, part(record, TO_READ, READ)) & check::same(part(lent, 0, data.len()), data)
 }
 
-// What was read where it is no message.
-fn no_message(answer: u8, used: usize) -> [u8; READ] {
-    [answer, 0, 0, 0, 0, 0, 0, 0, byte(used)]
-}
-
-// How many bytes were written, 0 where it was refused: no frame is empty.
-fn length_of(written: Written) -> usize {
-    match written {
-        Written::Done(n) => n,
-        Written::Refused(_) => 0,
-    }
-}
-
-// What a reader's answer is as bytes, a function for each family.
-fn comlynx_answer(answer: comlynx::Answer, used: usize) -> [u8; READ] {
-    match answer {
-        comlynx::Answer::Done => no_message(0, used),
-        comlynx::Answer::Message(h) => [
-            MESSAGE,
-            byte(h.source as usize / 256),
-            byte(h.source as usize),
-            byte(h.destination as usize / 256),
-            byte(h.destination as usize),
-            h.kind,
-            0,
-            byte(h.len),
-            byte(used),
-        ],
-        comlynx::Answer::Damaged(what) => no_message(what.number(), used),
-        comlynx::Answer::Refused(why) => no_message(why.number(), used),
-    }
-}
-
-fn eversolar_answer(answer: eversolar::Answer, used: usize) -> [u8; READ] {
-    match answer {
-        eversolar::Answer::Done => no_message(0, used),
-        eversolar::Answer::Message(h) => [
-            MESSAGE,
-            h.source_first,
-            h.source_second,
-            h.destination_first,
-            h.destination_second,
-            h.control,
-            h.function,
-            byte(h.len),
-            byte(used),
-        ],
-        eversolar::Answer::Damaged(what) => no_message(what.number(), used),
-        eversolar::Answer::Refused(why) => no_message(why.number(), used),
-    }
-}
-
-fn fronius_answer(answer: fronius::Answer, used: usize) -> [u8; READ] {
-    match answer {
-        fronius::Answer::Done => no_message(0, used),
-        fronius::Answer::Message(h) => [
-            MESSAGE,
-            0,
-            0,
-            h.device,
-            h.number,
-            h.command,
-            0,
-            byte(h.len),
-            byte(used),
-        ],
-        fronius::Answer::Damaged(what) => no_message(what.number(), used),
-        fronius::Answer::Refused(why) => no_message(why.number(), used),
-    }
-}
-
-// Whether both begin with the same `n` bytes.
-fn same_front(a: &[u8], b: &[u8], n: usize) -> bool {
-    if a.len() < n {
-        return false;
-    }
-    if b.len() < n {
-        return false;
-    }
-    check::same(&a[..n], &b[..n])
-}
-
-// Whether what was read is what the document says, with its data; and where that is a message, whether it is written as the frame: all of its length,
-// and its bytes as far as they are printed.
-fn agrees(
-    f: [u8; FRONT],
-    got: [u8; READ],
-    written: usize,
-    data: &[u8],
-    frame: &[u8],
-    lent: &[u8],
-    again: &[u8],
-) -> bool {
-    let reads = check::same(&got, &f[2..11]) & same_front(lent, data, data.len());
-    let writes = (written == frame.len()) & same_front(again, frame, wide(f[11]));
-    reads & (writes | (f[2] != MESSAGE))
+// Whether a message is written as the frame: all of its length, and its bytes as far as they are printed.
+fn writes(record: &[u8], again: &[u8]) -> bool {
+    let frame = frame_of(record);
+    let printed = size_at(record, PRINTED);
+    (again.len() == frame.len()) & check::same(part(again, 0, printed), part(frame, 0, printed))
 }
 
 fn print(text: &[u8]) {
@@ -150,27 +73,43 @@ fn print_number(n: u8) {
     print(b" ");
 }
 
-// The bytes from `i` to below `end` in hex, `-` where they are none.
-fn print_bytes(s: &[u8], mut i: usize, end: usize) {
-    if end <= i {
-        print(b"-");
-    }
-    if s.len() < end {
-        return;
-    }
-    while i < end {
-        io::print_hex(STDOUT_FILENO, wide(s[i]) as u64, 2);
+fn print_hex(b: u8) {
+    io::print_hex(STDOUT_FILENO, b as u64, 2);
+}
+
+// Bytes in hex.
+fn print_bytes(s: &[u8]) {
+    let mut i = 0;
+    while i < s.len() {
+        print_hex(s[i]);
         i += 1;
     }
     print(b" ");
 }
 
-// From, to, code and data.
-fn print_message(got: [u8; READ], lent: &[u8]) {
-    print_bytes(&got, 1, 3);
-    print_bytes(&got, 3, 5);
-    print_bytes(&got, 5, 7);
-    print_bytes(lent, 0, wide(got[7]));
+// Data in hex, `-` where there are none.
+fn print_data(s: &[u8]) {
+    if s.len() == 0 {
+        print(b"- ");
+        return;
+    }
+    print_bytes(s);
+}
+
+// From, to, code and data of a message.
+fn print_message(got: &[u8], lent: &[u8]) {
+    if byte_at(got, 0) != MESSAGE {
+        return;
+    }
+    print_bytes(part(got, 1, 2));
+    print_bytes(part(got, 3, 2));
+    print_bytes(part(got, 5, 2));
+    print_data(part(lent, 0, size_at(got, DATA_SIZE)));
+}
+
+// Whether a record of that answer is read and, where that is a message, written as its document says.
+fn agrees(reads: bool, writes: bool, answer: u8) -> bool {
+    reads & (writes | (answer != MESSAGE))
 }
 
 fn print_verdict(agrees: bool, answer: u8) {
@@ -185,99 +124,53 @@ fn print_verdict(agrees: bool, answer: u8) {
     print(b"damaged\n");
 }
 
-// The line of a record, of which `got` was read, its data in `lent`, and `written` bytes were written into `again`.
-fn report(
-    f: [u8; FRONT],
-    got: [u8; READ],
-    written: usize,
-    data: &[u8],
-    frame: &[u8],
-    lent: &[u8],
-    again: &[u8],
-) {
+// The line of a record, of which `got` was read, its data in `lent`, and `again` was written.
+fn report(record: &[u8], got: &[u8], lent: &[u8], again: &[u8]) {
     print(b"00");
-    print_number(f[0]);
-    print_number(f[1]);
-    print_number(got[0]);
-    if got[0] == MESSAGE {
-        print_message(got, lent);
-    }
-    print_verdict(agrees(f, got, written, data, frame, lent, again), f[2]);
+    print_number(byte_at(record, 0));
+    print_number(byte_at(record, NUMBER));
+    print_number(byte_at(got, 0));
+    print_message(got, lent);
+    let answer = byte_at(record, TO_READ);
+    print_verdict(
+        agrees(reads(record, got, lent), writes(record, again), answer),
+        answer,
+    );
 }
 
-// Reads the frame and writes the message of a record; a function for each family, the same but for its reader and its writer.
-fn try_comlynx(f: [u8; FRONT], data: &[u8], frame: &[u8]) {
+// The port that has the family of a document.
+fn port_of(document: u8) -> u8 {
+    match document {
+        0 => 1,
+        1 => 2,
+        _ => 3,
+    }
+}
+
+// Reads the frame and writes the message of a record. No frame has the number 0: behind the records there is nothing to try.
+fn try_record(record: &[u8]) {
+    if byte_at(record, NUMBER) == 0 {
+        return;
+    }
     let mut lent = [0u8; LENT];
     let mut again = [0u8; LENT];
-    let reader = comlynx::Reader::fresh();
-    let s = reader.step(frame, &mut lent);
-    let answer = s.answer;
-    let got = comlynx_answer(answer, s.used);
-    let written = length_of(comlynx::write(
-        word(f[3], f[4]),
-        word(f[5], f[6]),
-        f[7],
-        data,
+    let port = port_of(byte_at(record, 0));
+    let got = read(port, frame_of(record), &mut lent);
+    let n = length_of(write(
+        port,
+        part(record, TO_READ + 1, 6),
+        data_of(record),
         &mut again,
     ));
-    report(f, got, written, data, frame, &lent, &again);
+    report(record, &got, &lent, part(&again, 0, n));
 }
 
-fn try_eversolar(f: [u8; FRONT], data: &[u8], frame: &[u8]) {
-    let mut lent = [0u8; LENT];
-    let mut again = [0u8; LENT];
-    let reader = eversolar::Reader::fresh();
-    let s = reader.step(frame, &mut lent);
-    let answer = s.answer;
-    let got = eversolar_answer(answer, s.used);
-    let written = length_of(eversolar::write(f[3], f[4], f[5], f[6], f[7], f[8], data, &mut again));
-    report(f, got, written, data, frame, &lent, &again);
-}
-
-fn try_fronius(f: [u8; FRONT], data: &[u8], frame: &[u8]) {
-    let mut lent = [0u8; LENT];
-    let mut again = [0u8; LENT];
-    let reader = fronius::Reader::fresh();
-    let s = reader.step(frame, &mut lent);
-    let answer = s.answer;
-    let got = fronius_answer(answer, s.used);
-    let written = length_of(fronius::write(f[5], f[6], f[7], data, &mut again));
-    report(f, got, written, data, frame, &lent, &again);
-}
-
-fn try_record(f: [u8; FRONT], data: &[u8], frame: &[u8]) {
-    if f[0] == COMLYNX {
-        try_comlynx(f, data, frame);
-        return;
-    }
-    if f[0] == EVERSOLAR {
-        try_eversolar(f, data, frame);
-        return;
-    }
-    try_fronius(f, data, frame);
-}
-
-// A record's front says how many bytes of its data and of its frame count. Stops where no whole record is left.
 fn main() {
-    let mut records: usize = 0;
-    while records < RECORDS {
-        let mut f = [0u8; FRONT];
-        let mut data = [0u8; DATA];
-        let mut frame = [0u8; FRAME];
-        io::read_full(STDIN_FILENO, &mut f);
-        io::read_full(STDIN_FILENO, &mut data);
-        if io::read_full(STDIN_FILENO, &mut frame) < FRAME {
-            return;
-        }
-        let n = wide(f[9]);
-        let m = wide(f[10]);
-        if DATA < n {
-            return;
-        }
-        if FRAME < m {
-            return;
-        }
-        try_record(f, &data[..n], &frame[..m]);
-        records += 1;
+    let mut input = io::large_buffer();
+    io::read_full(STDIN_FILENO, &mut input);
+    let mut i = 0;
+    while i < RECORDS {
+        try_record(part(&input, RECORD * i, RECORD));
+        i += 1;
     }
 }

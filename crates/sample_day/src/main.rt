@@ -1,17 +1,14 @@
-// Writes a day of packets from three ports to standard output, as a board sends them from the first light to the last. Every message is made
-// by the writer of its family and every packet by the packet writer; then some bytes are changed, as a bad line changes them, so that each
-// damage number comes up.
-use answers::Written;
-use comlynx_day::comlynx_day;
-use eversolar_day::eversolar_day;
-use fronius_day::fronius_day;
+// Writes a day of packets from three ports to standard output, as a board sends them from the first light to the last. Standard input is what
+// was said, a record for each message: `sample/day.txt` as bytes. Every message is made by the writer of its family and every packet by the
+// packet writer; then some bytes are changed, as a bad line changes them, so that each damage number comes up.
+use libc::STDIN_FILENO;
 use libc::STDOUT_FILENO;
+use line::fill;
+use line::length_of;
 use parts::further;
-ghost use Rattle.io.specs.Counts.{Counts};
+use parts::part;
 
-mod comlynx_day;
-mod eversolar_day;
-mod fronius_day;
+mod line;
 mod parts;
 
 // How many bytes of a line go into one packet, in turn. Most end inside a message, one between the two bytes of an escape pair, two before
@@ -24,72 +21,42 @@ const ROUNDS: usize = 60;
 // Room for a full packet.
 const PACKET: usize = 247;
 
-// So many bytes, or as many as there are.
-fn fitting(n: usize, s: &[u8]) -> usize
-    ensures { λ r. ⌜ Counts r (now (s .entry)) ⌝ }
-{
-    if n < s.len() { n } else { s.len() }
-}
-
-// Prints what was written to the front of `packet`.
-fn print(w: Written, packet: &[u8]) {
-    match w {
-        Written::Done(n) => {
-            let k = fitting(n, packet);
-            io::write_all(STDOUT_FILENO, &packet[..k]);
-        }
-        Written::Refused(_) => {}
-    }
-}
-
-// Sends so many bytes of the line as one packet, or all that there are. Gives how many.
-fn send(port: u8, line: &[u8], count: usize) -> usize {
+// Sends the next packet of a line. Answers where the one after it begins. Of an empty line there is no packet.
+fn send_next(port: u8, round: usize, line: &[u8], from: usize) -> usize {
     let mut packet = [0u8; PACKET];
-    let n = fitting(count, line);
-    let w = uplink::write(port, &line[..n], &mut packet);
-    print(w, &packet);
-    n
-}
-
-// Sends the next packet of a line that goes up to `end`. Gives where the one after it begins.
-fn send_next(port: u8, round: usize, line: &[u8], from: usize, end: usize) -> usize {
-    if end <= from {
-        return from;
-    }
-    if line.len() < end {
-        return from;
-    }
-    let sent = send(port, &line[from..end], CUTS[round % CUTS.len()]);
-    further(from, sent)
+    let piece = part(line, from, CUTS[round % CUTS.len()]);
+    let n = length_of(uplink::write(port, piece, &mut packet));
+    io::write_all(STDOUT_FILENO, part(&packet, 0, n));
+    further(from, piece.len())
 }
 
 // The ports take turns, each with cuts of its own.
-fn send_all(
-    one: &[u8],
-    end_one: usize,
-    two: &[u8],
-    end_two: usize,
-    three: &[u8],
-    end_three: usize,
-) {
+fn send_all(one: &[u8], two: &[u8], three: &[u8]) {
     let mut a: usize = 0;
     let mut b: usize = 0;
     let mut c: usize = 0;
     let mut round: usize = 0;
     while round < ROUNDS {
-        a = send_next(1, round, one, a, end_one);
-        b = send_next(2, round + 2, two, b, end_two);
-        c = send_next(3, round + 3, three, c, end_three);
+        a = send_next(1, round, one, a);
+        b = send_next(2, round + 2, two, b);
+        c = send_next(3, round + 3, three, c);
         round += 1;
     }
 }
 
+// What is read is shorter than its buffer, and no record begins with 0.
 fn main() {
+    let mut day = io::large_buffer();
+    io::read_full(STDIN_FILENO, &mut day);
     let mut one = io::buffer();
     let mut two = io::buffer();
     let mut three = io::buffer();
-    let end_one = comlynx_day(&mut one);
-    let end_two = eversolar_day(&mut two);
-    let end_three = fronius_day(&mut three);
-    send_all(&one, end_one, &two, end_two, &three, end_three);
+    let end_one = fill(&mut one, &day, 1);
+    let end_two = fill(&mut two, &day, 2);
+    let end_three = fill(&mut three, &day, 3);
+    send_all(
+        part(&one, 0, end_one),
+        part(&two, 0, end_two),
+        part(&three, 0, end_three),
+    );
 }

@@ -1,87 +1,59 @@
-// What the three ports share. Each function takes any arguments: what does not fit changes nothing.
-use answers::Written;
+// Reading slices at any place: a byte past the end is 0, and of a part there is what there is, so that no caller owes a proof.
+ghost use Prim.Native.Nat.{_≤_};
 
-// The hours of the day, counted from 0: six to twenty by the clock.
-pub(crate) const HOURS: usize = 15;
+// No buffer here is as long.
+const FAR: usize = 1000000;
 
-// No line is longer: what is changed there is no byte of it.
-pub(crate) const LINE: usize = 4096;
-
-// What an inverter gives at each hour, in W, and what the day has brought by then, in tenths of a kWh.
-const POWER: [u16; HOURS] = [
-    40,
-    310,
-    740,
-    1210,
-    1680,
-    2090,
-    2420,
-    2590,
-    2540,
-    2310,
-    1890,
-    1350,
-    820,
-    330,
-    60,
-];
-
-const ENERGY: [u16; HOURS] = [
-    0,
-    2,
-    7,
-    17,
-    31,
-    50,
-    73,
-    98,
-    124,
-    148,
-    169,
-    185,
-    196,
-    202,
-    204,
-];
-
-pub(crate) fn power(hour: usize) -> u16 {
-    if hour < HOURS { POWER[hour] } else { 0 }
+struct Bounds {
+    from: usize,
+    to: usize,
 }
 
-pub(crate) fn energy(hour: usize) -> u16 {
-    if hour < HOURS { ENERGY[hour] } else { 0 }
-}
-
-pub(crate) fn low(word: u16) -> u8 {
-    (word % 256) as u8
-}
-
-pub(crate) fn high(word: u16) -> u8 {
-    (word / 256) as u8
-}
-
-// A place further on.
-pub(crate) fn further(at: usize, by: usize) -> usize {
-    if at > LINE {
-        return at;
+// The place so many bytes further on.
+pub(crate) fn further(at: usize, n: usize) -> usize {
+    if at > FAR {
+        return FAR;
     }
-    if by > LINE {
-        return at;
+    if n > FAR {
+        return FAR;
     }
-    at + by
+    at + n
 }
 
-// Where the line goes on after what was written at `at`.
-pub(crate) fn after(at: usize, w: Written) -> usize {
-    match w {
-        Written::Done(n) => further(at, n),
-        Written::Refused(_) => at,
+fn span(at: usize, n: usize, len: usize) -> Bounds
+    ensures { λ r. ⌜ (r .from ≤ r .to) × (r .to ≤ len) ⌝ }
+{
+    if len < at {
+        return Bounds { from: len, to: len };
+    }
+    if len - at < n {
+        return Bounds { from: at, to: len };
+    }
+    Bounds {
+        from: at,
+        to: at + n,
     }
 }
 
-// Changes one byte.
-pub(crate) fn change(line: &mut [u8], at: usize, to: u8) {
-    if at < line.len() {
-        line[at] = to;
-    }
+pub(crate) fn part(s: &[u8], at: usize, n: usize) -> &[u8] {
+    let there = span(at, n, s.len());
+    let from = there.from;
+    let to = there.to;
+    &s[from..to]
+}
+
+pub(crate) fn byte_at(s: &[u8], at: usize) -> u8 {
+    if at < s.len() { s[at] } else { 0 }
+}
+
+pub(crate) fn size_at(s: &[u8], at: usize) -> usize {
+    byte_at(s, at) as usize
+}
+
+fn word(high: u8, low: u8) -> u16 {
+    256 * (high as u16) + low as u16
+}
+
+pub(crate) fn word_at(s: &[u8], at: usize) -> u16 {
+    word(byte_at(s, at), byte_at(s, further(at, 1)))
 }

@@ -6,10 +6,10 @@ use Rattle.sample_day.proofs.send_all.Statement.{statement}
 use Rattle.sample_day.proofs.send_all.Tie as tie
 
 abbrev Inv-loop : tie.InvT-loop
-Inv-loop one end-one two end-two three end-three a₀ b₀ c₀ round₀ a b c round = round ≤ 60
+Inv-loop one two three a₀ b₀ c₀ round₀ a b c round = round ≤ 60
 
 abbrev μ-loop : tie.MeasureT-loop
-μ-loop one end-one two end-two three end-three a₀ b₀ c₀ round₀ a b c round = 60 - round
+μ-loop one two three a₀ b₀ c₀ round₀ a b c round = 60 - round
 
 loop-holds : tie.Need-loop-holds Inv-loop μ-loop
 loop-holds c = search needs
