@@ -1,5 +1,9 @@
 //! Calls of `probe`: sweeps over every limit, and random ones.
 
+use crate::listing_calls::{
+    line_sweep, listing_chain, listing_sweep, longest_call, port_chain, port_sweep, random_line,
+    random_listing, random_port, random_word, word_sweep,
+};
 use crate::random::Random;
 use crate::streams::{self, Family, FAMILIES};
 use right::{packet, probe};
@@ -13,38 +17,43 @@ pub struct Call {
 }
 
 /// A call that grows argument after argument.
-struct Making {
-    bytes: Vec<u8>,
+pub struct Making {
+    pub bytes: Vec<u8>,
 }
 
-fn op(op: u8) -> Making {
+pub fn op(op: u8) -> Making {
     Making { bytes: vec![op] }
 }
 
 impl Making {
-    fn raw(mut self, bytes: &[u8]) -> Making {
+    pub fn raw(mut self, bytes: &[u8]) -> Making {
         self.bytes.extend(bytes);
         self
     }
 
-    fn b(self, byte: u8) -> Making {
+    pub fn b(self, byte: u8) -> Making {
         self.raw(&[byte])
     }
 
-    fn w(self, word: u16) -> Making {
+    pub fn w(self, word: u16) -> Making {
         self.raw(&word.to_le_bytes())
     }
 
-    fn q(self, number: u64) -> Making {
+    pub fn q(self, number: u64) -> Making {
         self.raw(&number.to_le_bytes())
     }
 
-    fn list(self, bytes: &[u8]) -> Making {
+    pub fn list(self, bytes: &[u8]) -> Making {
         self.raw(&probe::as_list(bytes))
     }
 
-    fn from(self, generator: &'static str) -> Call {
+    pub fn from(self, generator: &'static str) -> Call {
         Call { generator, bytes: self.bytes }
+    }
+
+    /// The same arguments, for another call.
+    pub fn again(&self) -> Making {
+        Making { bytes: self.bytes.clone() }
     }
 }
 
@@ -53,11 +62,11 @@ impl Making {
 /// How a family's reader is called: its opcode, the bytes it holds, the bytes of its state, and
 /// where the state stands in a result.
 #[derive(Clone, Copy)]
-struct Shape {
+pub struct Shape {
     family: Family,
-    op: u8,
-    held: usize,
-    state: usize,
+    pub op: u8,
+    pub held: usize,
+    pub state: usize,
     state_in_result: usize,
     chain: &'static str,
     forged: &'static str,
@@ -65,7 +74,7 @@ struct Shape {
     lent: &'static str,
 }
 
-fn shape(family: Family) -> Shape {
+pub fn shape(family: Family) -> Shape {
     match family {
         Family::ComLynx => Shape {
             family,
@@ -103,13 +112,13 @@ fn shape(family: Family) -> Shape {
     }
 }
 
-fn fresh_state(shape: Shape) -> Vec<u8> {
+pub fn fresh_state(shape: Shape) -> Vec<u8> {
     let result = probe::answer(&[shape.op + 3]).expect("a fresh state needs no argument");
     result[1..].to_vec()
 }
 
 /// A state out of its parts; ComLynx has no length.
-fn state_of(shape: Shape, held: &[u8], stage: u8, count: u16, length: u16) -> Vec<u8> {
+pub fn state_of(shape: Shape, held: &[u8], stage: u8, count: u16, length: u16) -> Vec<u8> {
     let mut state = held.to_vec();
     state.push(stage);
     state.extend(count.to_le_bytes());
@@ -124,7 +133,7 @@ fn reader_call(shape: Shape, state: &[u8], piece: &[u8], lent: &[u8]) -> Making 
 }
 
 /// The number, the bytes used and the next state the call must give.
-fn after(shape: Shape, call: &[u8]) -> (u8, usize, Vec<u8>) {
+pub fn after(shape: Shape, call: &[u8]) -> (u8, usize, Vec<u8>) {
     let result = probe::answer(call).expect("a whole call");
     let used = usize::from(result[1]) + 256 * usize::from(result[2]);
     let state = &result[shape.state_in_result..shape.state_in_result + shape.state];
@@ -159,7 +168,7 @@ fn reader_chain(family: Family, random: &mut Random, calls: &mut Vec<Call>) {
 }
 
 /// Mostly enough, at times just below.
-fn lent_to_reader(random: &mut Random) -> Vec<u8> {
+pub fn lent_to_reader(random: &mut Random) -> Vec<u8> {
     let length = match random.below(24) {
         0 => random.pick(&[0, 1, 127, 253, 254]),
         1 => random.between(256, 532),
@@ -169,7 +178,7 @@ fn lent_to_reader(random: &mut Random) -> Vec<u8> {
 }
 
 /// A state as a stream left it, then spoilt or not; or one made of numbers near the limits.
-fn reader_forged(family: Family, random: &mut Random) -> Call {
+pub fn forged_call(family: Family, random: &mut Random) -> Call {
     let shape = shape(family);
     let (state, piece) = if random.one_in(3) {
         state_of_numbers(shape, random)
@@ -191,7 +200,7 @@ fn state_of_numbers(shape: Shape, random: &mut Random) -> (Vec<u8>, Vec<u8>) {
 }
 
 /// A frame cut in two: the first part read over held bytes of before, the second part to come.
-fn state_on_the_way(shape: Shape, random: &mut Random) -> (Vec<u8>, Vec<u8>) {
+pub fn state_on_the_way(shape: Shape, random: &mut Random) -> (Vec<u8>, Vec<u8>) {
     let frame = streams::frame(shape.family, random);
     let (first, second) = frame.split_at(random.between(0, frame.len() - 1));
     let begin = state_of(shape, &random.specials(shape.held), 0, 0, 0);
@@ -220,8 +229,8 @@ fn spoil_a_number(shape: Shape, state: &mut [u8], random: &mut Random) {
 
 /// Each stage with counts and lengths on both sides of each limit; every telling piece where the
 /// state is in its range, else one piece, with enough lent and with too little.
-fn reader_grid(family: Family, random: &mut Random, calls: &mut Vec<Call>) {
-    let shape = shape(family);
+pub fn grid_calls(family: Family, random: &mut Random) -> Vec<Call> {
+    let (shape, mut calls) = (shape(family), Vec::new());
     let lengths: &[u16] = match family {
         Family::ComLynx => &[0],
         Family::Eversolar => &[0, 1, 254, 255, 256, 65_535],
@@ -232,10 +241,11 @@ fn reader_grid(family: Family, random: &mut Random, calls: &mut Vec<Call>) {
             for count in counts_for(family, length) {
                 let held = random.content(shape.held);
                 let state = state_of(shape, &held, stage, count, length);
-                calls_on_a_state(shape, &state, random, calls);
+                calls_on_a_state(shape, &state, random, &mut calls);
             }
         }
     }
+    calls
 }
 
 fn calls_on_a_state(shape: Shape, state: &[u8], random: &mut Random, calls: &mut Vec<Call>) {
@@ -318,7 +328,7 @@ const STRETCHES: &str = "ComLynx reader, stretches with several things wrong";
 /// A message whose last byte comes, with every lent length.
 fn reader_lent_lengths(family: Family, random: &mut Random, calls: &mut Vec<Call>) {
     let shape = shape(family);
-    for length in (0..=260).chain([532, 1000, 8192]) {
+    for length in (0..=260).chain([532, 1000, 8192, 16_384]) {
         let data = if length % 2 == 0 {
             random.content(family.most_data())
         } else {
@@ -371,7 +381,7 @@ fn writer_with_telling_room(family: Family, random: &mut Random, data: &[u8]) ->
 fn random_writer(family: Family, random: &mut Random) -> Call {
     let mut length = streams::data_length(family, random);
     if random.one_in(8) {
-        length = family.most_data() + random.pick(&[0, 1, 2, 129, 7937]);
+        length = family.most_data() + random.pick(&[0, 1, 2, 129, 16_129]);
     }
     let data = random.content(length);
     writer_with_telling_room(family, random, &data)
@@ -805,7 +815,7 @@ fn packet_write_call(port: u8, line: &[u8], lent: &[u8]) -> Call {
 }
 
 /// A packet of 27 bytes, wrong where a bit of `wrong` says so: mark, version, port, count.
-fn packet_with(wrong: u8, random: &mut Random) -> Vec<u8> {
+pub fn head_with(wrong: u8, random: &mut Random) -> Vec<u8> {
     let mut packet = packet::packet(1, &random.bytes(20));
     for (bit, place, value) in [(0, 2, b'S'), (1, 4, 2), (2, 5, 4), (3, 6, 241)] {
         if wrong >> bit & 1 == 1 {
@@ -831,7 +841,7 @@ fn packet_sweep(random: &mut Random, calls: &mut Vec<Call>) {
     }
     for wrong in 0..16 {
         for length in [6, 7, 26, 27] {
-            calls.push(packet_call(&packet_with(wrong, random)[..length]));
+            calls.push(packet_call(&head_with(wrong, random)[..length]));
         }
     }
     for port in [0, 1, 2, 3, 4, 255] {
@@ -887,7 +897,7 @@ fn random_checksum(random: &mut Random) -> Call {
 }
 
 fn fresh_calls(calls: &mut Vec<Call>) {
-    for fresh in [0x04, 0x05, 0x06] {
+    for fresh in [0x04, 0x05, 0x06, 0x86, 0x88] {
         calls.push(op(fresh).from("fresh state"));
     }
 }
@@ -900,7 +910,7 @@ pub fn sweeps(random: &mut Random) -> Vec<Call> {
     fresh_calls(&mut calls);
     stretch_matrix(random, &mut calls);
     for family in FAMILIES {
-        reader_grid(family, random, &mut calls);
+        calls.extend(grid_calls(family, random));
         reader_lent_lengths(family, random, &mut calls);
         writer_sweep(family, random, &mut calls);
     }
@@ -913,6 +923,10 @@ pub fn sweeps(random: &mut Random) -> Vec<Call> {
     roster_sweep(random, &mut calls);
     packet_sweep(random, &mut calls);
     checksum_sweep(&mut calls);
+    word_sweep(random, &mut calls);
+    line_sweep(random, &mut calls);
+    port_sweep(random, &mut calls);
+    listing_sweep(random, &mut calls);
     calls
 }
 
@@ -921,9 +935,9 @@ pub fn random_calls(random: &mut Random, count: usize) -> Vec<Call> {
     let mut calls = Vec::new();
     while calls.len() < count {
         let family = random.pick(&FAMILIES);
-        match random.below(32) {
+        match random.below(40) {
             0 => reader_chain(family, random, &mut calls),
-            1..=9 => calls.push(reader_forged(family, random)),
+            1..=9 => calls.push(forged_call(family, random)),
             10..=13 => calls.push(random_writer(family, random)),
             14 => calls.push(random_meaning(random)),
             15 => calls.push(random_address(random)),
@@ -938,6 +952,14 @@ pub fn random_calls(random: &mut Random, count: usize) -> Vec<Call> {
             }
             26 | 27 => calls.push(random_packet(random)),
             28 => fresh_calls(&mut calls),
+            29 => calls.push(random_word(random)),
+            30 | 31 => calls.push(random_line(random)),
+            32 | 33 => calls.push(random_port(random)),
+            34 | 35 => calls.push(random_listing(random)),
+            36 => {
+                let chain = random.pick(&[port_chain, listing_chain]);
+                chain(random, &mut calls);
+            }
             _ => calls.push(random_checksum(random)),
         }
     }
@@ -948,16 +970,21 @@ pub fn random_calls(random: &mut Random, count: usize) -> Vec<Call> {
 /// calls that must get no answer.
 pub fn broken_ending(random: &mut Random) -> Call {
     let mut ending = Vec::new();
-    match random.between(0, 2) {
+    match random.between(0, 3) {
         0 => {
             ending.push(random.pick(&[
-                0x00, 0x07, 0x10, 0x14, 0x24, 0x30, 0x36, 0x43, 0x50, 0x57, 0x63, 0x70, 0x75, 0xFF,
+                0x00, 0x07, 0x10, 0x14, 0x24, 0x30, 0x38, 0x43, 0x50, 0x57, 0x63, 0x70, 0x75, 0x80,
+                0x8A, 0xFF,
             ]));
             ending.extend(op(0x73).w(random.word()).bytes);
         }
         1 => {
-            let length = random.pick(&[8193, 8194, 16_384, 65_535]);
+            let length = random.pick(&[16_385, 16_386, 32_768, 65_535]);
             ending.extend(op(0x71).list(&random.bytes(length)).bytes);
+            ending.extend(op(0x73).w(random.word()).bytes);
+        }
+        2 => {
+            ending.extend(longest_call(true, random).bytes);
             ending.extend(op(0x73).w(random.word()).bytes);
         }
         _ => {

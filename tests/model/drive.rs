@@ -3,6 +3,7 @@
 mod calls;
 mod fields;
 mod known;
+mod listing_calls;
 mod programs;
 mod random;
 mod streams;
@@ -30,8 +31,8 @@ struct Amount {
     full_listings: usize,
 }
 
-const DEFAULT: Amount = Amount { random_sessions: 40, listings: 1000, full_listings: 6 };
-const LONG: Amount = Amount { random_sessions: 800, listings: 12_000, full_listings: 24 };
+const DEFAULT: Amount = Amount { random_sessions: 50, listings: 1000, full_listings: 6 };
+const LONG: Amount = Amount { random_sessions: 1000, listings: 12_000, full_listings: 24 };
 const CALLS_IN_A_SESSION: usize = 600;
 const LISTINGS_IN_A_JOB: usize = 20;
 const STREAMS_IN_TWO_WAYS: u64 = 300;
@@ -141,7 +142,7 @@ fn jobs(run: &Run, sweeps: usize) -> Vec<Job> {
             jobs.push(Job::FullListing(order));
         }
     }
-    let two_ways = (0..3).map(Job::TwoWays);
+    let two_ways = (0..4).map(Job::TwoWays);
     let known: Vec<Job> =
         [Job::KnownCalls, Job::KnownListings].into_iter().chain(two_ways).collect();
     let mut jobs = match run.probe {
@@ -184,7 +185,7 @@ fn do_job(run: &Run, job: Job, sweeps: &[&[Call]], counts: &Counts) -> Result<()
     match job {
         Job::KnownCalls => known_calls(run, counts),
         Job::KnownListings => known_listings(run, counts),
-        Job::TwoWays(family) => two_ways(run, family),
+        Job::TwoWays(which) => two_ways(run, which),
         Job::Sweep(case) => compare_session(run, &format!("sweep {case}"), sweeps[case], counts),
         Job::RandomSession(case) => {
             let mut random = Random::of(run.seed, 1, case as u64);
@@ -234,15 +235,20 @@ fn full_listing_input(case: usize, random: &mut Random) -> Vec<u8> {
     streams::long_listing_input(random, packets, tail)
 }
 
-/// The model's readers of whole streams and of pieces agree.
-fn two_ways(run: &Run, family: usize) -> Result<(), String> {
+/// The model's readers of whole streams and of pieces agree, and its listings of whole inputs and
+/// of packets.
+fn two_ways(run: &Run, which: usize) -> Result<(), String> {
     (0..STREAMS_IN_TWO_WAYS).try_for_each(|case| {
-        let mut random = Random::of(run.seed, 5 + family as u64, case);
-        match two_ways::disagree(streams::FAMILIES[family], &mut random) {
+        let mut random = Random::of(run.seed, 5 + which as u64, case);
+        let disagreement = match streams::FAMILIES.get(which) {
+            Some(&family) => two_ways::disagree(family, &mut random),
+            None => two_ways::listings_disagree(&mut random),
+        };
+        match disagreement {
             None => Ok(()),
-            Some(report) => Err(format!(
-                "case {family} {case}, generator \"the model in two ways\"\n  {report}"
-            )),
+            Some(report) => {
+                Err(format!("case {which} {case}, generator \"the model in two ways\"\n  {report}"))
+            }
         }
     })
 }

@@ -48,8 +48,12 @@ pub fn sum_of(earlier: &[u8]) -> u16 {
 }
 
 /// "words (checksum and data words) go low byte first".
-fn word_low_first(word: u16) -> [u8; 2] {
+pub fn word_low_first(word: u16) -> [u8; 2] {
     [(word % 256) as u8, (word / 256) as u8]
+}
+
+pub fn word_of(first: u8, second: u8) -> u16 {
+    u16::from(first) + 256 * u16::from(second)
 }
 
 /// "Writers test 8, then 9".
@@ -255,7 +259,7 @@ pub fn total_energy(control: u8, function: u8, data: &[u8]) -> Result<u32, u8> {
 
 /// "item k being the word at data bytes 2k and 2k+1", low byte first.
 fn item(data: &[u8], k: usize) -> u32 {
-    u32::from(data[2 * k]) + 256 * u32::from(data[2 * k + 1])
+    u32::from(word_of(data[2 * k], data[2 * k + 1]))
 }
 
 /// "attempt 1 waits 0; each later attempt waits the remainder by 15 of what is left, and

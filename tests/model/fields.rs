@@ -1,7 +1,41 @@
 //! Results of `probe` in words, for the report of a disagreement.
 
+/// The fields of PORTS.
+const PORTS: [(&str, usize); 11] = [
+    ("ComLynx held", 265),
+    ("ComLynx stage", 1),
+    ("ComLynx count", 2),
+    ("Eversolar held", 263),
+    ("Eversolar stage", 1),
+    ("Eversolar count", 2),
+    ("Eversolar length", 2),
+    ("Fronius held", 130),
+    ("Fronius stage", 1),
+    ("Fronius count", 2),
+    ("Fronius length", 2),
+];
+
+const COUNTS: [(&str, usize); 3] = [("packets", 8), ("messages", 8), ("damages", 8)];
+
 /// The fields after the number: their names and bytes; 0 bytes for a list.
-fn fields_of(op: u8) -> &'static [(&'static str, usize)] {
+fn fields_of(op: u8) -> Vec<(&'static str, usize)> {
+    let ports = PORTS.as_slice();
+    match op {
+        0x86 => ports.to_vec(),
+        0x87 => {
+            let told = [("used", 2), ("from", 0), ("to", 0), ("code", 0), ("length", 2)];
+            [&told, ports, &[("lent", 0)]].concat()
+        }
+        0x88 => [ports, &COUNTS].concat(),
+        0x89 => {
+            let told = [("came", 1), ("used", 2), ("wrote", 2)];
+            [&told, ports, &COUNTS, &[("lent", 0)]].concat()
+        }
+        _ => other_fields_of(op).to_vec(),
+    }
+}
+
+fn other_fields_of(op: u8) -> &'static [(&'static str, usize)] {
     match op {
         0x01 => &[
             ("used", 2),
@@ -42,12 +76,14 @@ fn fields_of(op: u8) -> &'static [(&'static str, usize)] {
         0x04 => &[("held", 265), ("stage", 1), ("count", 2)],
         0x05 => &[("held", 263), ("stage", 1), ("count", 2), ("state length", 2)],
         0x06 => &[("held", 130), ("stage", 1), ("count", 2), ("state length", 2)],
-        0x11..=0x13 | 0x31..=0x33 | 0x62 => &[("length", 2), ("lent", 0)],
+        0x11..=0x13 | 0x31..=0x33 | 0x62 | 0x81..=0x85 => &[("length", 2), ("lent", 0)],
         0x21 => &[("kind", 1), ("id", 1), ("code", 1)],
         0x22 => &[("network", 1), ("subnet", 1), ("node", 1)],
         0x23 => &[("word", 2)],
         0x34 => &[("tenths", 4)],
         0x35 => &[("units", 8)],
+        0x36 => &[("word", 2)],
+        0x37 => &[("first", 1), ("second", 1)],
         0x41 => &[("thousandths", 8)],
         0x42 => &[("kind", 1), ("double", 8)],
         0x51 | 0x53 | 0x54 | 0x56 => &[("address", 1), ("roster", 0)],
@@ -64,15 +100,22 @@ pub fn hex(bytes: &[u8]) -> String {
     bytes.join(" ")
 }
 
+/// A list's size is that of its length and of so many bytes.
+fn size_of_field(size: usize, rest: &[u8]) -> usize {
+    match (size, rest) {
+        (0, [low, high, ..]) => 2 + usize::from(*low) + 256 * usize::from(*high),
+        _ => size,
+    }
+}
+
 /// The number and every field; short ones as numbers too.
 pub fn in_words(op: u8, result: &[u8]) -> String {
     let Some((number, mut rest)) = result.split_first() else {
         return "an empty result".to_string();
     };
     let mut words = format!("number {number}");
-    for &(name, size) in fields_of(op) {
-        let size = if size == 0 { rest.len() } else { size.min(rest.len()) };
-        let (field, later) = rest.split_at(size);
+    for (name, size) in fields_of(op) {
+        let (field, later) = rest.split_at(size_of_field(size, rest).min(rest.len()));
         rest = later;
         words.push_str(&format!("\n    {name}: {}", hex(field)));
         if field.len() <= 8 {

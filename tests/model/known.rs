@@ -1,6 +1,7 @@
 //! The numbers the paper prints: P1 to P12, L1, and published examples of 000, with their
 //! answers written out.
 
+#[derive(Clone)]
 pub struct KnownCall {
     pub name: &'static str,
     pub call: Vec<u8>,
@@ -24,6 +25,10 @@ fn known(name: &'static str, call: &str, result: &str) -> KnownCall {
 
 /// Calls whose results are known to the last byte.
 pub fn calls() -> Vec<KnownCall> {
+    [short_calls(), calls_of_l1()].concat()
+}
+
+fn short_calls() -> Vec<KnownCall> {
     vec![
         known("P1, state", "71 08 00 FF 03 00 02 11 FF 00 15", "00 86 6E"),
         known("P1, sent", "73 86 6E", "00 79 91"),
@@ -64,11 +69,91 @@ pub fn calls() -> Vec<KnownCall> {
             "11 02 00 03 12 15 00 00 0C 00 00 00 00 00 00 00 00 00 00 00 00 00",
             "00 0C 00 0C 00 7E FF 03 00 02 12 03 00 15 23 9D 7E",
         ),
+        known("checksum of P3, word", "36 10 01", "00 10 01"),
+        known("checksum of P3, bytes", "37 10 01", "00 10 01"),
     ]
 }
 
-fn packet(port: u8, line: &str) -> Vec<u8> {
-    let line = bytes(line);
+const HEADER: &str = "port answer from to code data\n";
+const LINE: &str = "1 1 0002 11FF 15 -\n";
+const END: &str = "end 1 0\n";
+
+fn list(bytes: &[u8]) -> Vec<u8> {
+    [&(bytes.len() as u16).to_le_bytes(), bytes].concat()
+}
+
+/// A call that writes a line into exactly its room.
+fn line(name: &'static str, call: &[u8], text: &str) -> KnownCall {
+    let call = [call, &list(&vec![0xEE; text.len()])].concat();
+    let length = (text.len() as u16).to_le_bytes();
+    KnownCall { name, call, result: [&[0], &length[..], &list(text.as_bytes())].concat() }
+}
+
+/// PORTS with nothing held but the body of L1's frame, which a ComLynx reader has at `stage`.
+fn ports(stage: u8, body: &[u8]) -> Vec<u8> {
+    let mut ports = vec![0; 268 + 268 + 135];
+    ports[..body.len()].copy_from_slice(body);
+    ports[265] = stage;
+    ports
+}
+
+fn counts(packets: u64, messages: u64) -> Vec<u8> {
+    [packets, messages, 0].map(u64::to_le_bytes).concat()
+}
+
+/// The text at the front of a lent buffer of EE.
+fn lent_with(text: &str, length: usize) -> Vec<u8> {
+    let mut lent = text.as_bytes().to_vec();
+    lent.resize(length, 0xEE);
+    list(&lent)
+}
+
+/// Case L1, line by line, through its port and as a packet.
+fn calls_of_l1() -> Vec<KnownCall> {
+    let frame = bytes("7E FF 03 00 02 11 FF 00 15 79 91 7E");
+    let (fresh, after) = (ports(0, &[]), ports(1, &frame[1..11]));
+    let message = bytes("02 00 00 02 02 00 11 FF 01 00 15");
+    let of_one_port = [fresh.clone(), vec![1], list(&frame), lent_with("", 255)].concat();
+    let read = [bytes("01 0C 00"), message.clone(), bytes("00 00"), after.clone()].concat();
+    let of_a_listing = [fresh.clone(), counts(0, 0), vec![0], list(&packet_of(1, &frame))].concat();
+    let (begun, listed) = ([0, 2, 19, 0, LINE.len() as u8, 0], [after.clone(), counts(1, 1)]);
+    let of_the_end = [after.clone(), counts(1, 1), vec![1], list(&[])].concat();
+    let ended = [0, 3, 0, 0, END.len() as u8, 0];
+    vec![
+        line("L1, header", &[0x81], HEADER),
+        line("L1, message", &[&[0x82, 1][..], &message, &list(&[])].concat(), LINE),
+        line("a damage", &[0x83, 3, 6], "3 6\n"),
+        line("a stop", &[0x84, 13], "stop 13\n"),
+        line("L1, end", &[&[0x85][..], &counts(1, 0)[..16]].concat(), END),
+        KnownCall {
+            name: "fresh ports",
+            call: vec![0x86],
+            result: [vec![0], fresh.clone()].concat(),
+        },
+        KnownCall {
+            name: "L1, its port",
+            call: [vec![0x87], of_one_port].concat(),
+            result: [read, lent_with("", 255)].concat(),
+        },
+        KnownCall {
+            name: "a fresh listing",
+            call: vec![0x88],
+            result: [vec![0], fresh, counts(0, 0)].concat(),
+        },
+        KnownCall {
+            name: "L1, its packet",
+            call: [vec![0x89], of_a_listing, lent_with("", 8192)].concat(),
+            result: [begun.to_vec(), listed.concat(), lent_with(LINE, 8192)].concat(),
+        },
+        KnownCall {
+            name: "L1, its end",
+            call: [vec![0x89], of_the_end, lent_with("", 8192)].concat(),
+            result: [ended.to_vec(), after, counts(1, 1), lent_with(END, 8192)].concat(),
+        },
+    ]
+}
+
+fn packet_of(port: u8, line: &[u8]) -> Vec<u8> {
     let mut packet = b"SBR\x00\x01".to_vec();
     packet.extend([port, line.len() as u8]);
     packet.extend(line);
@@ -76,7 +161,7 @@ fn packet(port: u8, line: &str) -> Vec<u8> {
 }
 
 fn listing(name: &'static str, packets: &[(u8, &str)], output: &'static str) -> KnownListing {
-    let input = packets.iter().flat_map(|&(port, line)| packet(port, line)).collect();
+    let input = packets.iter().flat_map(|&(port, line)| packet_of(port, &bytes(line))).collect();
     KnownListing { name, input, output }
 }
 

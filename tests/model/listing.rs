@@ -1,10 +1,10 @@
 //! The listing program `sbrlist`: its whole output for a whole input.
 
+use crate::lines::{self, Fields};
 use crate::number;
 use crate::packet;
 use crate::{comlynx, eversolar, fronius, Event, Outcome};
 
-const HEADER: &str = "port answer from to code data\n";
 const MOST_PACKETS: usize = 65_536;
 
 /// The packets taken, and the number of the refusal that stops the listing, if one does.
@@ -34,14 +34,14 @@ pub fn listing(input: &[u8]) -> Vec<u8> {
     let lines = lines_in_order(&intake);
     let messages = lines.iter().filter(|line| line.is_message).count();
     let damages = lines.len() - messages;
-    let mut output = String::from(HEADER);
+    let mut output = String::from(lines::HEADER);
     for line in &lines {
         output.push_str(&line.text);
     }
     if let Some(refusal) = intake.stop {
-        output.push_str(&format!("stop {refusal}\n"));
+        output.push_str(&lines::stop(refusal));
     }
-    output.push_str(&format!("end {messages} {damages}\n"));
+    output.push_str(&lines::end(messages as u64, damages as u64));
     output.into_bytes()
 }
 
@@ -96,52 +96,21 @@ fn lines_in_order(intake: &Intake) -> Vec<Line> {
 /// ComLynx on port 1 (case L1), Eversolar on 2, Fronius on 3, each over all bytes of its port.
 fn lines_of_ports(streams: &[Vec<u8>; 3]) -> [Vec<Line>; 3] {
     [
-        lines_of(1, comlynx::events(&streams[0]), comlynx_fields),
-        lines_of(2, eversolar::events(&streams[1]), eversolar_fields),
-        lines_of(3, fronius::events(&streams[2]), fronius_fields),
+        lines_of(1, comlynx::events(&streams[0]), lines::of_comlynx),
+        lines_of(2, eversolar::events(&streams[1]), lines::of_eversolar),
+        lines_of(3, fronius::events(&streams[2]), lines::of_fronius),
     ]
 }
 
-fn lines_of<M>(port: u8, events: Vec<Event<M>>, fields: fn(&M) -> String) -> Vec<Line> {
+fn lines_of<M>(port: u8, events: Vec<Event<M>>, fields: fn(&M) -> Fields) -> Vec<Line> {
     events.into_iter().map(|event| line_of(port, event.end, event.outcome, fields)).collect()
 }
 
-fn line_of<M>(port: u8, end: usize, outcome: Outcome<M>, fields: fn(&M) -> String) -> Line {
+fn line_of<M>(port: u8, end: usize, outcome: Outcome<M>, fields: fn(&M) -> Fields) -> Line {
     match outcome {
         Ok(message) => {
-            Line { end, is_message: true, text: format!("{port} 1 {}\n", fields(&message)) }
+            Line { end, is_message: true, text: lines::message(port, &fields(&message)) }
         }
-        // "A damage line is port and number."
-        Err(damage) => Line { end, is_message: false, text: format!("{port} {damage}\n") },
+        Err(damage) => Line { end, is_message: false, text: lines::damage(port, damage) },
     }
-}
-
-fn comlynx_fields(message: &comlynx::Message) -> String {
-    let (from, to) = (message.source, message.destination);
-    format!("{from:04X} {to:04X} {:02X} {}", message.kind, data_field(&message.data))
-}
-
-/// "Eversolar's code is control and function".
-fn eversolar_fields(message: &eversolar::Message) -> String {
-    let (from, to) = (hex(&message.source), hex(&message.destination));
-    let code = hex(&[message.control, message.function]);
-    format!("{from} {to} {code} {}", data_field(&message.data))
-}
-
-/// "Fronius has `-` for from, and device with number for to."
-fn fronius_fields(message: &fronius::Message) -> String {
-    let to = hex(&[message.device, message.number]);
-    format!("- {to} {:02X} {}", message.command, data_field(&message.data))
-}
-
-/// "Hex is upper case; no data prints `-`."
-fn data_field(data: &[u8]) -> String {
-    if data.is_empty() {
-        return "-".to_string();
-    }
-    hex(data)
-}
-
-fn hex(bytes: &[u8]) -> String {
-    bytes.iter().map(|byte| format!("{byte:02X}")).collect()
 }

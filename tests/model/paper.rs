@@ -2,14 +2,18 @@
 //!
 //! Each rule is a small function, and the sentence it follows stands above it.
 //! The listing reads all bytes of a port at once, in whole stretches and whole
-//! frames; single calls on a given state go byte by byte.
+//! frames; single calls on a given state, those of a listing made packet by packet too, go byte
+//! by byte.
 
+pub mod by_packet;
 pub mod checksum;
 pub mod comlynx;
 pub mod eversolar;
 pub mod fronius;
+pub mod lines;
 pub mod listing;
 pub mod packet;
+pub mod ports;
 pub mod probe;
 pub mod roster;
 

@@ -1,14 +1,21 @@
 //! The protocol of `probe`: calls in, results out, each made by the model.
 
+use crate::by_packet::{self, Listing};
+use crate::lines::{self, Fields};
 use crate::number;
-use crate::{checksum, comlynx, eversolar, fronius, packet, roster, Written};
+use crate::ports::{self, Ports};
+use crate::{checksum, comlynx, eversolar, fronius, hand_over, packet, roster, Written};
 
-/// "A list is W (its length, at most 8,192) and that many bytes."
-const LONGEST_LIST: usize = 8192;
+/// "A list is W (its length, at most 16,384) and that many bytes."
+const LONGEST_LIST: usize = 16_384;
+
+/// "A call of more than 65,536 bytes".
+const LONGEST_CALL: usize = 65_536;
 
 /// "`probe` reads calls from standard input, makes each, and writes its result to standard
 /// output, call after call, until the input ends. A call whose bytes are not all there, an opcode
-/// that is not listed, or a list longer than it may be, ends it: it writes nothing more."
+/// that is not listed, a list longer than it may be, or a call of more than 65,536 bytes, ends it:
+/// it writes nothing more."
 pub fn session(input: &[u8]) -> Vec<u8> {
     let mut output = Vec::new();
     let mut calls = Arguments { rest: input };
@@ -101,6 +108,7 @@ impl Answer {
 }
 
 fn next_result(calls: &mut Arguments) -> Option<Vec<u8>> {
+    let bytes_before = calls.rest.len();
     let answer = match calls.byte()? {
         0x01 => read_comlynx(calls),
         0x02 => read_eversolar(calls),
@@ -119,6 +127,8 @@ fn next_result(calls: &mut Arguments) -> Option<Vec<u8>> {
         0x33 => give_an_address(calls),
         0x34 => total_energy(calls),
         0x35 => wait(calls),
+        0x36 => word_of_two_bytes(calls),
+        0x37 => two_bytes_of_a_word(calls),
         0x41 => measured_value(calls),
         0x42 => reading(calls),
         0x51 => roster_give(calls, over_bytes),
@@ -133,16 +143,30 @@ fn next_result(calls: &mut Arguments) -> Option<Vec<u8>> {
         0x72 => checksum_going_on(calls),
         0x73 => checksum_sent(calls),
         0x74 => checksum_over_the_first(calls),
+        0x81 => header_line(calls),
+        0x82 => message_line(calls),
+        0x83 => damage_line(calls),
+        0x84 => stop_line(calls),
+        0x85 => end_line(calls),
+        0x86 => Some(put_ports(Answer::of(number::DONE), &ports::fresh())),
+        0x87 => read_a_port(calls),
+        0x88 => Some(put_listing(Answer::of(number::DONE), &by_packet::fresh())),
+        0x89 => list_a_packet(calls),
         _ => None,
     };
-    answer.map(|answer| answer.bytes)
+    let length = bytes_before - calls.rest.len();
+    answer.filter(|_| length <= LONGEST_CALL).map(|answer| answer.bytes)
 }
 
 // ---- readers ----
 
-fn read_comlynx(calls: &mut Arguments) -> Option<Answer> {
+fn comlynx_state(calls: &mut Arguments) -> Option<comlynx::State> {
     let held = calls.bytes(comlynx::LONGEST_BODY)?.to_vec();
-    let mut state = comlynx::State { held, stage: calls.byte()?, count: calls.word()? };
+    Some(comlynx::State { held, stage: calls.byte()?, count: calls.word()? })
+}
+
+fn read_comlynx(calls: &mut Arguments) -> Option<Answer> {
+    let mut state = comlynx_state(calls)?;
     let (piece, mut lent) = (calls.list()?, calls.lent()?);
     let reading = comlynx::read(&mut state, piece, &mut lent);
     let answer = Answer::of(reading.number).word(reading.used as u16);
@@ -161,10 +185,14 @@ fn put_comlynx_state(answer: Answer, state: &comlynx::State) -> Answer {
     answer.bytes(&state.held).byte(state.stage).word(state.count)
 }
 
-fn read_eversolar(calls: &mut Arguments) -> Option<Answer> {
+fn eversolar_state(calls: &mut Arguments) -> Option<eversolar::State> {
     let held = calls.bytes(eversolar::MOST_HELD)?.to_vec();
     let (stage, count, length) = (calls.byte()?, calls.word()?, calls.word()?);
-    let mut state = eversolar::State { held, stage, count, length };
+    Some(eversolar::State { held, stage, count, length })
+}
+
+fn read_eversolar(calls: &mut Arguments) -> Option<Answer> {
+    let mut state = eversolar_state(calls)?;
     let (piece, mut lent) = (calls.list()?, calls.lent()?);
     let reading = eversolar::read(&mut state, piece, &mut lent);
     let answer = Answer::of(reading.number).word(reading.used as u16);
@@ -184,10 +212,14 @@ fn put_eversolar_state(answer: Answer, state: &eversolar::State) -> Answer {
     answer.bytes(&state.held).byte(state.stage).word(state.count).word(state.length)
 }
 
-fn read_fronius(calls: &mut Arguments) -> Option<Answer> {
+fn fronius_state(calls: &mut Arguments) -> Option<fronius::State> {
     let held = calls.bytes(fronius::MOST_HELD)?.to_vec();
     let (stage, count, length) = (calls.byte()?, calls.word()?, calls.word()?);
-    let mut state = fronius::State { held, stage, count, length };
+    Some(fronius::State { held, stage, count, length })
+}
+
+fn read_fronius(calls: &mut Arguments) -> Option<Answer> {
+    let mut state = fronius_state(calls)?;
     let (piece, mut lent) = (calls.list()?, calls.lent()?);
     let reading = fronius::read(&mut state, piece, &mut lent);
     let answer = Answer::of(reading.number).word(reading.used as u16);
@@ -310,6 +342,16 @@ fn wait(calls: &mut Arguments) -> Option<Answer> {
     })
 }
 
+fn word_of_two_bytes(calls: &mut Arguments) -> Option<Answer> {
+    let (first, second) = (calls.byte()?, calls.byte()?);
+    Some(Answer::of(number::DONE).word(eversolar::word_of(first, second)))
+}
+
+fn two_bytes_of_a_word(calls: &mut Arguments) -> Option<Answer> {
+    let word = calls.word()?;
+    Some(Answer::of(number::DONE).bytes(&eversolar::word_low_first(word)))
+}
+
 // ---- Fronius values ----
 
 fn measured_value(calls: &mut Arguments) -> Option<Answer> {
@@ -425,4 +467,94 @@ fn checksum_over_the_first(calls: &mut Arguments) -> Option<Answer> {
     let (count, list) = (calls.word()?, calls.list()?);
     let first = usize::from(count).min(list.len());
     Some(Answer::of(number::DONE).word(checksum::over(&list[..first])))
+}
+
+// ---- the listing's lines ----
+
+fn put_line(line: &str, mut lent: Vec<u8>) -> Answer {
+    let written = hand_over(line.as_bytes(), &mut lent);
+    put_written(&written, &lent)
+}
+
+fn header_line(calls: &mut Arguments) -> Option<Answer> {
+    Some(put_line(lines::HEADER, calls.lent()?))
+}
+
+fn message_line(calls: &mut Arguments) -> Option<Answer> {
+    let port = calls.byte()?;
+    let (from, to) = (calls.list()?.to_vec(), calls.list()?.to_vec());
+    let (code, data) = (calls.list()?.to_vec(), calls.list()?.to_vec());
+    let mut lent = calls.lent()?;
+    let written = lines::write_message(port, &Fields { from, to, code, data }, &mut lent);
+    Some(put_written(&written, &lent))
+}
+
+fn damage_line(calls: &mut Arguments) -> Option<Answer> {
+    let (port, damage) = (calls.byte()?, calls.byte()?);
+    Some(put_line(&lines::damage(port, damage), calls.lent()?))
+}
+
+fn stop_line(calls: &mut Arguments) -> Option<Answer> {
+    let refusal = calls.byte()?;
+    Some(put_line(&lines::stop(refusal), calls.lent()?))
+}
+
+fn end_line(calls: &mut Arguments) -> Option<Answer> {
+    let (messages, damages) = (calls.number(8)?, calls.number(8)?);
+    Some(put_line(&lines::end(messages, damages), calls.lent()?))
+}
+
+// ---- all ports, and the listing packet by packet ----
+
+/// "PORTS is: the STATE of ComLynx, of Eversolar and of Fronius."
+fn ports_of(calls: &mut Arguments) -> Option<Ports> {
+    Some(Ports {
+        comlynx: comlynx_state(calls)?,
+        eversolar: eversolar_state(calls)?,
+        fronius: fronius_state(calls)?,
+    })
+}
+
+fn put_ports(answer: Answer, ports: &Ports) -> Answer {
+    let answer = put_comlynx_state(answer, &ports.comlynx);
+    let answer = put_eversolar_state(answer, &ports.eversolar);
+    put_fronius_state(answer, &ports.fronius)
+}
+
+fn read_a_port(calls: &mut Arguments) -> Option<Answer> {
+    let (mut ports, port) = (ports_of(calls)?, calls.byte()?);
+    let (piece, mut lent) = (calls.list()?, calls.lent()?);
+    let reading = ports::read(&mut ports, port, piece, &mut lent);
+    let answer = Answer::of(reading.number).word(reading.used as u16);
+    let answer = match reading.message {
+        Some(fields) => answer
+            .list(&fields.from)
+            .list(&fields.to)
+            .list(&fields.code)
+            .word(fields.data.len() as u16),
+        None => answer.list(&[]).list(&[]).list(&[]).word(0),
+    };
+    Some(put_ports(answer, &ports).list(&lent))
+}
+
+/// "LISTING is: PORTS, packets:Q, messages:Q, damages:Q."
+fn listing_of(calls: &mut Arguments) -> Option<Listing> {
+    let ports = ports_of(calls)?;
+    let (packets, messages, damages) = (calls.number(8)?, calls.number(8)?, calls.number(8)?);
+    Some(Listing { ports, packets, messages, damages })
+}
+
+fn put_listing(answer: Answer, listing: &Listing) -> Answer {
+    let counts = [listing.packets, listing.messages, listing.damages];
+    let put_count = |answer: Answer, count: u64| answer.bytes(&count.to_le_bytes());
+    counts.into_iter().fold(put_ports(answer, &listing.ports), put_count)
+}
+
+fn list_a_packet(calls: &mut Arguments) -> Option<Answer> {
+    let (mut listing, ended) = (listing_of(calls)?, calls.byte()?);
+    let (input, mut lent) = (calls.list()?, calls.lent()?);
+    let step = by_packet::next(&mut listing, ended == 1, input, &mut lent);
+    let answer = Answer::of(step.number).byte(step.came);
+    let answer = answer.word(step.used as u16).word(step.wrote as u16);
+    Some(put_listing(answer, &listing).list(&lent))
 }

@@ -1,9 +1,10 @@
 //! The model against itself: a stream read whole, and the same stream read byte by byte in
-//! pieces, must tell the same messages and damages at the same bytes.
+//! pieces, must tell the same messages and damages at the same bytes; an input listed whole, and
+//! the same input packet by packet, must give the same text.
 
 use crate::random::Random;
 use crate::streams::{self, Family};
-use right::{comlynx, eversolar, fronius, Event, Reading};
+use right::{by_packet, comlynx, eversolar, fronius, lines, listing, Event, Reading};
 
 /// What was told, and after how many bytes of the stream.
 type Told = (usize, String);
@@ -85,4 +86,31 @@ fn pieces<M>(
         }
     }
     told
+}
+
+pub fn listings_disagree(random: &mut Random) -> Option<String> {
+    let input = streams::listing_input(random);
+    let whole = listing::listing(&input);
+    let by_packet = listed_by_packet(&input, random);
+    let (whole, by_packet) = (String::from_utf8_lossy(&whole), String::from_utf8_lossy(&by_packet));
+    (whole != by_packet).then(|| format!("whole: {whole:?}\n  by packet: {by_packet:?}"))
+}
+
+/// More and more of the input at hand, until the listing ends.
+fn listed_by_packet(input: &[u8], random: &mut Random) -> Vec<u8> {
+    let mut listing = by_packet::fresh();
+    let mut text = lines::HEADER.as_bytes().to_vec();
+    let (mut place, mut at_hand) = (0, 0);
+    loop {
+        let mut lent = [0; by_packet::LEAST_LENT];
+        let ended = at_hand == input.len();
+        let step = by_packet::next(&mut listing, ended, &input[place..at_hand], &mut lent);
+        text.extend(&lent[..step.wrote]);
+        place += step.used;
+        match step.came {
+            1 => at_hand = input.len().min(at_hand + random.between(1, 300)),
+            2 => {}
+            _ => return text,
+        }
+    }
 }

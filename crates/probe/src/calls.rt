@@ -1,132 +1,157 @@
-// Which call an opcode names, how many bytes it has, and the call itself.
+// Reading a call, and making it.
+use crate::heads::say_head;
 use crate::packets;
 use crate::readers;
 use crate::rosters;
+use crate::shapes::COMLYNX;
+use crate::shapes::EVERSOLAR;
+use crate::shapes::FRESH;
+use crate::shapes::FRONIUS;
+use crate::shapes::PACKETS;
+use crate::shapes::ROSTERS;
+use crate::shapes::SIDES;
+use crate::shapes::Shape;
+use crate::shapes::TEXTS;
+use crate::shapes::WRITERS;
+use crate::shapes::shape_of;
+use crate::sides;
+use crate::texts;
 use crate::values;
+use crate::wire::FAR;
 use crate::wire::byte_at;
+use crate::wire::list_at;
+use crate::wire::list_size;
 use crate::wire::on;
+use crate::wire::part;
 use crate::wire::past_list;
+use crate::wire::put;
+use crate::wire::say;
+use crate::wire::say_size;
+use crate::wire::span;
 use crate::writers;
+use libc::STDIN_FILENO;
 
-// A call's bytes behind its opcode: so many of fixed size, a list, so many more, a second list; the last two or three only where
-// there are so many lists.
-struct Shape {
-    known: bool,
-    before: usize,
-    lists: u8,
-    between: usize,
+// Reads so many bytes to a place. Answers the place behind them, far away where they are not all there.
+fn read_on(call: &mut [u8], at: usize, n: usize) -> usize {
+    if n == 0 {
+        return at;
+    }
+    let there = span(at, n, call.len());
+    let from = there.from;
+    let to = there.to;
+    if io::read_full(STDIN_FILENO, &mut call[from..to]) < n {
+        return FAR;
+    }
+    to
 }
 
-fn of(before: usize, lists: u8, between: usize) -> Shape {
-    Shape {
-        known: true,
-        before: before,
-        lists: lists,
-        between: between,
+// Reads a list to a place, where there is one.
+fn read_list(call: &mut [u8], at: usize, there: bool) -> usize {
+    if !there {
+        return at;
     }
+    let next = read_on(call, at, 2);
+    read_on(call, next, list_size(call, at))
 }
 
-fn shape_of(op: u8) -> Shape {
-    match op {
-        0x01 => of(268, 2, 0),
-        0x02 => of(268, 2, 0),
-        0x03 => of(135, 2, 0),
-        0x04 => of(0, 0, 0),
-        0x05 => of(0, 0, 0),
-        0x06 => of(0, 0, 0),
-        0x11 => of(5, 2, 0),
-        0x12 => of(6, 2, 0),
-        0x13 => of(3, 2, 0),
-        0x21 => of(1, 1, 0),
-        0x22 => of(2, 0, 0),
-        0x23 => of(3, 0, 0),
-        0x31 => of(1, 1, 0),
-        0x32 => of(2, 1, 0),
-        0x33 => of(0, 2, 1),
-        0x34 => of(2, 1, 0),
-        0x35 => of(9, 0, 0),
-        0x41 => of(1, 1, 0),
-        0x42 => of(2, 1, 0),
-        0x51 => of(0, 2, 0),
-        0x52 => of(0, 1, 1),
-        0x53 => of(0, 2, 0),
-        0x54 => of(0, 2, 0),
-        0x55 => of(0, 1, 1),
-        0x56 => of(0, 2, 0),
-        0x61 => of(0, 1, 0),
-        0x62 => of(1, 2, 0),
-        0x71 => of(0, 1, 0),
-        0x72 => of(2, 1, 0),
-        0x73 => of(2, 0, 0),
-        0x74 => of(2, 1, 0),
-        _ => Shape {
-            known: false,
-            before: 0,
-            lists: 0,
-            between: 0,
-        },
-    }
+// Reads three lists, where they are there.
+fn read_three(call: &mut [u8], at: usize, there: bool) -> usize {
+    let next = read_list(call, at, there);
+    let next = read_list(call, next, there);
+    read_list(call, next, there)
 }
 
-fn end_of(s: &[u8], shape: Shape) -> usize {
-    let end = on(1, shape.before);
-    if shape.lists == 0 {
-        return end;
-    }
-    let end = on(past_list(s, end), shape.between);
-    if shape.lists == 1 {
-        return end;
-    }
-    past_list(s, end)
+// Reads the next call to the front of a buffer. Answers its length, far more than there is room for where it is not whole.
+pub(crate) fn read(call: &mut [u8]) -> usize {
+    let next = read_on(call, 0, 1);
+    let shape = shape_of(byte_at(call, 0));
+    let lists = shape.2;
+    let next = read_on(call, next, shape.1);
+    let next = read_list(call, next, lists > 0);
+    let next = read_on(call, next, shape.3);
+    let next = read_list(call, next, lists > 1);
+    read_three(call, next, lists > 2)
 }
 
-// The bytes of the call at the front of a slice; 0 where they are not all there, and where there is no such call.
-pub(crate) fn length_of(s: &[u8]) -> usize {
-    let shape = shape_of(byte_at(s, 0));
-    if !shape.known {
+fn past_three(s: &[u8], at: usize) -> usize {
+    past_list(s, past_list(s, past_list(s, at)))
+}
+
+// Where a call has the list that it lends, if it lends one.
+fn lent_at(s: &[u8], shape: Shape) -> usize {
+    let first = on(1, shape.1);
+    let which = shape.6;
+    if which < 2 {
+        return first;
+    }
+    let second = on(past_list(s, first), shape.3);
+    if which == 2 {
+        return second;
+    }
+    past_three(s, second)
+}
+
+// Puts out what a call was lent, as it is later, where it was lent something.
+fn say_lent(lent: &[u8], which: u8) {
+    if which == 0 {
+        return;
+    }
+    say_size(lent.len());
+    say(lent);
+}
+
+// How many bytes a result has behind its head and its state.
+fn lent_size(n: usize, which: u8) -> usize {
+    if which == 0 {
         return 0;
     }
-    let end = end_of(s, shape);
-    if end > s.len() {
-        return 0;
-    }
-    end
+    on(2, n)
 }
 
-// Makes the call at the front of a slice and puts its result at the front of another. Answers the result's length.
-pub(crate) fn made(s: &[u8], out: &mut [u8]) -> usize {
-    match byte_at(s, 0) {
-        0x01 => readers::comlynx(s, out),
-        0x02 => readers::eversolar(s, out),
-        0x03 => readers::fronius(s, out),
-        0x04 => readers::comlynx_fresh(out),
-        0x05 => readers::eversolar_fresh(out),
-        0x06 => readers::fronius_fresh(out),
-        0x11 => writers::comlynx(s, out),
-        0x12 => writers::eversolar(s, out),
-        0x13 => writers::fronius(s, out),
-        0x21 => values::meaning(s, out),
-        0x22 => values::address(s, out),
-        0x23 => values::word_of_address(s, out),
-        0x31 => writers::ask_all(s, out),
-        0x32 => writers::ask_one(s, out),
-        0x33 => writers::give_address(s, out),
-        0x34 => values::energy(s, out),
-        0x35 => values::wait(s, out),
-        0x41 => values::measured(s, out),
-        0x42 => values::reading(s, out),
-        0x51 => rosters::give(s, out),
-        0x52 => rosters::remove(s, out),
-        0x53 => rosters::find(s, out),
-        0x54 => rosters::give_held(s, out),
-        0x55 => rosters::remove_held(s, out),
-        0x56 => rosters::find_held(s, out),
-        0x61 => packets::packet(s, out),
-        0x62 => writers::packet(s, out),
-        0x71 => packets::sum(s, out),
-        0x72 => packets::sum_more(s, out),
-        0x73 => packets::sum_sent(s, out),
-        0x74 => packets::sum_first(s, out),
-        _ => 0,
+// Puts out a result's length, where it is known before the call is made.
+fn say_length(who: u8, n: usize) {
+    if who == SIDES {
+        return;
     }
+    say_size(n);
+}
+
+// Makes a call, whose first list is given, and puts out the head of its result and the state.
+fn make_with(who: u8, s: &[u8], first: &[u8], lent: &mut [u8], head: usize) {
+    let op = byte_at(s, 0);
+    match who {
+        COMLYNX => readers::comlynx(s, first, lent, head),
+        EVERSOLAR => readers::eversolar(s, first, lent, head),
+        FRONIUS => readers::fronius(s, first, lent, head),
+        FRESH => readers::fresh(op, head),
+        WRITERS => say_head(writers::written(writers::write(op, s, first, lent)), head),
+        ROSTERS => say_head(rosters::head_of(op, s, lent), head),
+        TEXTS => say_head(writers::written(texts::write(op, s, lent)), head),
+        SIDES => sides::call(s, first, lent),
+        PACKETS => packets::call(s, first, lent, head),
+        _ => say_head(values::head_of(op, s, first), head),
+    }
+}
+
+// Makes a call and puts its result out: its length, the head, the state, and what was lent.
+pub(crate) fn make(s: &[u8], lent: &mut [u8]) {
+    let op = byte_at(s, 0);
+    let shape = shape_of(op);
+    let head = shape.4;
+    let which = shape.6;
+    let list = list_at(s, lent_at(s, shape));
+    let n = rosters::counted(op, list.len());
+    say_length(shape.0, on(on(head, shape.5), lent_size(n, which)));
+    put(lent, 0, part(list, 0, n));
+    let there = span(0, n, lent.len());
+    let from = there.from;
+    let to = there.to;
+    make_with(
+        shape.0,
+        s,
+        list_at(s, on(1, shape.1)),
+        &mut lent[from..to],
+        head,
+    );
+    say_lent(part(lent, 0, n), which);
 }

@@ -1,51 +1,73 @@
-// The packet reader, and the ComLynx checksum by itself.
-use crate::wire::ended;
-use crate::wire::list_at;
-use crate::wire::put;
-use crate::wire::put_size;
-use crate::wire::put_word;
-use crate::wire::size_at;
-use crate::wire::word_at;
-use uplink::Received;
+// A listing, one packet a call.
+use crate::heads::HEAD;
+use crate::heads::say_head;
+use crate::heads::told;
+use crate::shapes::LISTING_STATE;
+use crate::shapes::PORTS_STATE;
+use crate::sides::ports_of;
+use crate::sides::say_ports;
+use crate::wire::byte_at;
+use crate::wire::high;
+use crate::wire::low;
+use crate::wire::part;
+use crate::wire::quad_at;
+use crate::wire::say;
+use listing::Heard;
+use listing::Listing;
 
-fn put_packet(out: &mut [u8], number: u8, port: u8, count: u8, used: usize) -> usize {
-    let next = put(out, 2, number);
-    let next = put(out, next, port);
-    let next = put(out, next, count);
-    let end = put_size(out, next, used);
-    ended(out, end)
-}
-
-pub(crate) fn packet(s: &[u8], out: &mut [u8]) -> usize {
-    let received = uplink::read(list_at(s, 1));
-    match received {
-        Received::Packet { port, count, used } => put_packet(out, 0, port, count, used),
-        Received::Refused(why) => put_packet(out, why.number(), 0, 0, 0),
+fn listing_of(s: &[u8]) -> Listing {
+    let ports = ports_of(s);
+    Listing {
+        ports: ports,
+        packets: quad_at(s, 1 + PORTS_STATE) as usize,
+        messages: quad_at(s, 9 + PORTS_STATE),
+        damages: quad_at(s, 17 + PORTS_STATE),
     }
 }
 
-fn put_state(out: &mut [u8], state: u16) -> usize {
-    let next = put(out, 2, 0);
-    let end = put_word(out, next, state);
-    ended(out, end)
+fn say_count(n: u64) {
+    let bytes = told(0, n);
+    say(part(&bytes, 1, 8));
 }
 
-pub(crate) fn sum(s: &[u8], out: &mut [u8]) -> usize {
-    put_state(out, fcs::of(list_at(s, 1)))
+pub(crate) fn say_listing(listing: Listing) {
+    let ports = listing.ports;
+    say_ports(ports);
+    say_count(listing.packets as u64);
+    say_count(listing.messages);
+    say_count(listing.damages);
 }
 
-pub(crate) fn sum_more(s: &[u8], out: &mut [u8]) -> usize {
-    put_state(out, fcs::more(word_at(s, 1), list_at(s, 3)))
+fn came(number: u8, what: u8, used: usize, wrote: usize) -> [u8; HEAD] {
+    [
+        number,
+        what,
+        low(used),
+        high(used),
+        low(wrote),
+        high(wrote),
+        0,
+        0,
+        0,
+        0,
+        0,
+    ]
 }
 
-pub(crate) fn sum_first(s: &[u8], out: &mut [u8]) -> usize {
-    put_state(out, fcs::of_first(list_at(s, 3), size_at(s, 1)))
+fn heard_head(heard: Heard, used: usize, wrote: usize) -> [u8; HEAD] {
+    match heard {
+        Heard::More => came(0, 1, used, wrote),
+        Heard::Packet => came(0, 2, used, wrote),
+        Heard::End => came(0, 3, used, wrote),
+        Heard::Refused(why) => came(why.number(), 0, used, wrote),
+    }
 }
 
-pub(crate) fn sum_sent(s: &[u8], out: &mut [u8]) -> usize {
-    let sent = fcs::sent_of(word_at(s, 1));
-    let next = put(out, 2, 0);
-    let next = put(out, next, sent.low);
-    let end = put(out, next, sent.high);
-    ended(out, end)
+pub(crate) fn call(s: &[u8], input: &[u8], lent: &mut [u8], head: usize) {
+    let ended = byte_at(s, 1 + LISTING_STATE) == 1;
+    let listed = listing_of(s).step(input, ended, lent);
+    let heard = listed.heard;
+    let listing = listed.listing;
+    say_head(heard_head(heard, listed.used, listed.wrote), head);
+    say_listing(listing);
 }

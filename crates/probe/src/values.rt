@@ -1,12 +1,14 @@
-// What messages mean: type byte, addresses, total energy, waits, measured values and readings.
+// The calls that lend nothing: what messages mean, the packet reader, and the ComLynx checksum by itself.
+use crate::heads::HEAD;
+use crate::heads::kind_told;
+use crate::heads::refused;
+use crate::heads::three_told;
+use crate::heads::told;
 use crate::wire::byte_at;
-use crate::wire::ended;
-use crate::wire::list_at;
-use crate::wire::put;
-use crate::wire::put_double;
-use crate::wire::put_quad;
-use crate::wire::put_word;
+use crate::wire::high;
+use crate::wire::low;
 use crate::wire::quad_at;
+use crate::wire::size_at;
 use crate::wire::word_at;
 use comlynx_meaning::Address;
 use comlynx_meaning::Addressed;
@@ -16,82 +18,50 @@ use eversolar_values::Wait;
 use fronius_values::measured::Measured;
 use fronius_values::reading::Read;
 use fronius_values::reading::Reading;
+use uplink::Received;
 
-// A result of three bytes behind its number.
-fn three(out: &mut [u8], number: u8, one: u8, two: u8, three: u8) -> usize {
-    let next = put(out, 2, number);
-    let next = put(out, next, one);
-    let next = put(out, next, two);
-    let end = put(out, next, three);
-    ended(out, end)
-}
-
-fn put_meaning(out: &mut [u8], meaning: Meaning) -> usize {
+fn meaning(kind: u8, data: &[u8]) -> [u8; HEAD] {
+    let meaning = comlynx_meaning::meaning_of(kind, data);
     match meaning {
-        Meaning::Request(id) => three(out, 0, 1, id, 0),
-        Meaning::Reply(id) => three(out, 0, 2, id, 0),
-        Meaning::TransmissionError(id, code) => three(out, 0, 3, id, code),
-        Meaning::ApplicationError(id, code) => three(out, 0, 4, id, code),
-        Meaning::Refused(why) => three(out, why.number(), 0, 0, 0),
+        Meaning::Request(id) => three_told(0, 1, id, 0),
+        Meaning::Reply(id) => three_told(0, 2, id, 0),
+        Meaning::TransmissionError(id, code) => three_told(0, 3, id, code),
+        Meaning::ApplicationError(id, code) => three_told(0, 4, id, code),
+        Meaning::Refused(why) => refused(why),
     }
 }
 
-pub(crate) fn meaning(s: &[u8], out: &mut [u8]) -> usize {
-    put_meaning(
-        out,
-        comlynx_meaning::meaning_of(byte_at(s, 1), list_at(s, 2)),
-    )
+fn address(word: u16) -> [u8; HEAD] {
+    let a = comlynx_meaning::address_of(word);
+    three_told(0, a.network, a.subnet, a.node)
 }
 
-pub(crate) fn address(s: &[u8], out: &mut [u8]) -> usize {
-    let a = comlynx_meaning::address_of(word_at(s, 1));
-    three(out, 0, a.network, a.subnet, a.node)
-}
-
-fn put_word_result(out: &mut [u8], number: u8, w: u16) -> usize {
-    let next = put(out, 2, number);
-    let end = put_word(out, next, w);
-    ended(out, end)
-}
-
-pub(crate) fn word_of_address(s: &[u8], out: &mut [u8]) -> usize {
+fn word_of_address(network: u8, subnet: u8, node: u8) -> [u8; HEAD] {
     let a = Address {
-        network: byte_at(s, 1),
-        subnet: byte_at(s, 2),
-        node: byte_at(s, 3),
+        network: network,
+        subnet: subnet,
+        node: node,
     };
     let addressed = comlynx_meaning::word_of(a);
     match addressed {
-        Addressed::Word(w) => put_word_result(out, 0, w),
-        Addressed::Refused(why) => put_word_result(out, why.number(), 0),
+        Addressed::Word(w) => told(0, w as u64),
+        Addressed::Refused(why) => refused(why),
     }
 }
 
-fn put_double_result(out: &mut [u8], number: u8, d: u32) -> usize {
-    let next = put(out, 2, number);
-    let end = put_double(out, next, d);
-    ended(out, end)
-}
-
-pub(crate) fn energy(s: &[u8], out: &mut [u8]) -> usize {
-    let energy = eversolar_values::total_energy(byte_at(s, 1), byte_at(s, 2), list_at(s, 3));
+fn energy(control: u8, function: u8, data: &[u8]) -> [u8; HEAD] {
+    let energy = eversolar_values::total_energy(control, function, data);
     match energy {
-        Energy::Tenths(tenths) => put_double_result(out, 0, tenths),
-        Energy::Refused(why) => put_double_result(out, why.number(), 0),
+        Energy::Tenths(tenths) => told(0, tenths as u64),
+        Energy::Refused(why) => refused(why),
     }
 }
 
-fn put_quad_result(out: &mut [u8], number: u8, q: u64) -> usize {
-    let next = put(out, 2, number);
-    let end = put_quad(out, next, q);
-    ended(out, end)
-}
-
-pub(crate) fn wait(s: &[u8], out: &mut [u8]) -> usize {
-    let wait = eversolar_values::wait_of(quad_at(s, 1), byte_at(s, 9));
+fn wait(serial: u64, attempt: u8) -> [u8; HEAD] {
+    let wait = eversolar_values::wait_of(serial, attempt);
     match wait {
-        Wait::Units(units) => put_quad_result(out, 0, units),
-        Wait::Refused(why) => put_quad_result(out, why.number(), 0),
+        Wait::Units(units) => told(0, units),
+        Wait::Refused(why) => refused(why),
     }
 }
 
@@ -111,11 +81,11 @@ fn complement(x: i64) -> u64 {
     !magnitude(!x)
 }
 
-pub(crate) fn measured(s: &[u8], out: &mut [u8]) -> usize {
-    let measured = fronius_values::measured::thousandths(list_at(s, 2), byte_at(s, 1) == 1);
+fn measured(data: &[u8], signed: bool) -> [u8; HEAD] {
+    let measured = fronius_values::measured::thousandths(data, signed);
     match measured {
-        Measured::Thousandths(n) => put_quad_result(out, 0, complement(n)),
-        Measured::Refused(why) => put_quad_result(out, why.number(), 0),
+        Measured::Thousandths(n) => told(0, complement(n)),
+        Measured::Refused(why) => refused(why),
     }
 }
 
@@ -127,29 +97,75 @@ fn pattern(x: f64) -> u64 {
     f64::to_bits(x)
 }
 
-fn put_reading(out: &mut [u8], number: u8, kind: u8, q: u64) -> usize {
-    let next = put(out, 2, number);
-    let next = put(out, next, kind);
-    let end = put_quad(out, next, q);
-    ended(out, end)
-}
+// A reading's kind by its number, and its double.
+struct Kinded(u8, f64);
 
-fn put_value(out: &mut [u8], reading: Reading) -> usize {
+fn valued(reading: Reading) -> Kinded {
     match reading {
-        Reading::Power(x) => put_reading(out, 0, 1, pattern(x)),
-        Reading::Energy(x) => put_reading(out, 0, 2, pattern(x)),
-        Reading::Voltage(x) => put_reading(out, 0, 3, pattern(x)),
-        Reading::Current(x) => put_reading(out, 0, 4, pattern(x)),
-        Reading::Frequency(x) => put_reading(out, 0, 5, pattern(x)),
-        Reading::Minutes(x) => put_reading(out, 0, 6, pattern(x)),
-        Reading::Money(x) => put_reading(out, 0, 7, pattern(x)),
+        Reading::Power(x) => Kinded(1, x),
+        Reading::Energy(x) => Kinded(2, x),
+        Reading::Voltage(x) => Kinded(3, x),
+        Reading::Current(x) => Kinded(4, x),
+        Reading::Frequency(x) => Kinded(5, x),
+        Reading::Minutes(x) => Kinded(6, x),
+        Reading::Money(x) => Kinded(7, x),
     }
 }
 
-pub(crate) fn reading(s: &[u8], out: &mut [u8]) -> usize {
-    let read = fronius_values::reading::reading_of(byte_at(s, 1), byte_at(s, 2), list_at(s, 3));
+fn value_told(reading: Reading) -> [u8; HEAD] {
+    let v = valued(reading);
+    kind_told(v.0, pattern(v.1))
+}
+
+fn reading(device: u8, command: u8, data: &[u8]) -> [u8; HEAD] {
+    let read = fronius_values::reading::reading_of(device, command, data);
     match read {
-        Read::Value(value) => put_value(out, value),
-        Read::Refused(why) => put_reading(out, why.number(), 0, 0),
+        Read::Value(value) => value_told(value),
+        Read::Refused(why) => refused(why),
+    }
+}
+
+fn word_bytes(word: u16) -> [u8; HEAD] {
+    let pair = eversolar_words::bytes_of(word);
+    three_told(0, pair.first, pair.second, 0)
+}
+
+fn packet_told(port: u8, count: u8, used: usize) -> [u8; HEAD] {
+    [0, port, count, low(used), high(used), 0, 0, 0, 0, 0, 0]
+}
+
+fn packet(bytes: &[u8]) -> [u8; HEAD] {
+    let received = uplink::read(bytes);
+    match received {
+        Received::Packet { port, count, used } => packet_told(port, count, used),
+        Received::Refused(why) => refused(why),
+    }
+}
+
+fn sum(state: u16) -> [u8; HEAD] {
+    told(0, state as u64)
+}
+
+fn sent(state: u16) -> [u8; HEAD] {
+    let sent = fcs::sent_of(state);
+    three_told(0, sent.low, sent.high, 0)
+}
+
+pub(crate) fn head_of(op: u8, s: &[u8], first: &[u8]) -> [u8; HEAD] {
+    match op {
+        0x21 => meaning(byte_at(s, 1), first),
+        0x22 => address(word_at(s, 1)),
+        0x23 => word_of_address(byte_at(s, 1), byte_at(s, 2), byte_at(s, 3)),
+        0x34 => energy(byte_at(s, 1), byte_at(s, 2), first),
+        0x35 => wait(quad_at(s, 1), byte_at(s, 9)),
+        0x36 => sum(eversolar_words::word(byte_at(s, 1), byte_at(s, 2))),
+        0x37 => word_bytes(word_at(s, 1)),
+        0x41 => measured(first, byte_at(s, 1) == 1),
+        0x42 => reading(byte_at(s, 1), byte_at(s, 2), first),
+        0x61 => packet(first),
+        0x71 => sum(fcs::of(first)),
+        0x72 => sum(fcs::more(word_at(s, 1), first)),
+        0x73 => sent(word_at(s, 1)),
+        _ => sum(fcs::of_first(first, size_at(s, 1))),
     }
 }

@@ -1,13 +1,13 @@
-// Numbers and lists in a call's bytes, and putting them into a result. Every function here takes any place: a byte past the end
-// reads as 0, and a store past the end does nothing, so that no caller owes a proof.
+// Numbers and lists in a call's bytes, and putting bytes out. Every function here takes any place: a byte past the end reads as 0,
+// and what does not fit is not put, so that no caller owes a proof.
+use libc::STDOUT_FILENO;
 ghost use Prim.Native.Nat.{_≤_};
-ghost use lib.ListN.{length};
 
 // No buffer here is as long.
-const FAR: usize = 1000000;
+pub(crate) const FAR: usize = 1000000;
 
 // The longest list of a call.
-const LIST_MAX: usize = 8192;
+const LIST_MAX: usize = 16384;
 
 // Some bytes of a slice: from one place up to another.
 pub(crate) struct Bounds {
@@ -50,37 +50,42 @@ fn word(low: u8, high: u8) -> u16 {
     256 * (high as u16) + low as u16
 }
 
-fn double(low: u16, high: u16) -> u32 {
-    65536 * (high as u32) + low as u32
-}
-
-fn quad(low: u32, high: u32) -> u64 {
-    4294967296 * (high as u64) + low as u64
-}
-
 pub(crate) fn word_at(s: &[u8], at: usize) -> u16 {
     word(byte_at(s, at), byte_at(s, on(at, 1)))
 }
 
-fn double_at(s: &[u8], at: usize) -> u32 {
-    double(word_at(s, at), word_at(s, on(at, 2)))
+fn quad(first: u16, second: u16, third: u16, fourth: u16) -> u64 {
+    first as u64
+        + 65536 * (second as u64)
+        + 4294967296 * (third as u64)
+        + 281474976710656 * (fourth as u64)
 }
 
 pub(crate) fn quad_at(s: &[u8], at: usize) -> u64 {
-    quad(double_at(s, at), double_at(s, on(at, 4)))
+    quad(
+        word_at(s, at),
+        word_at(s, on(at, 2)),
+        word_at(s, on(at, 4)),
+        word_at(s, on(at, 6)),
+    )
 }
 
 pub(crate) fn size_at(s: &[u8], at: usize) -> usize {
     word_at(s, at) as usize
 }
 
-// The place behind the list at a place; far away where it is longer than a list may be.
-pub(crate) fn past_list(s: &[u8], at: usize) -> usize {
+// The length of the list at a place; far too long where it is longer than a list may be.
+pub(crate) fn list_size(s: &[u8], at: usize) -> usize {
     let n = size_at(s, at);
     if n > LIST_MAX {
         return FAR;
     }
-    on(on(at, 2), n)
+    n
+}
+
+// The place behind the list at a place.
+pub(crate) fn past_list(s: &[u8], at: usize) -> usize {
+    on(on(at, 2), list_size(s, at))
 }
 
 pub(crate) fn part(s: &[u8], at: usize, n: usize) -> &[u8] {
@@ -94,61 +99,31 @@ pub(crate) fn list_at(s: &[u8], at: usize) -> &[u8] {
     part(s, on(at, 2), size_at(s, at))
 }
 
-// Puts a byte at a place. Answers the place behind it, as every `put` does.
-pub(crate) fn put(out: &mut [u8], at: usize, b: u8) -> usize {
-    if at < out.len() {
-        out[at] = b;
-        return on(at, 1);
+pub(crate) fn low(n: usize) -> u8 {
+    (n % 256) as u8
+}
+
+pub(crate) fn high(n: usize) -> u8 {
+    (n / 256 % 256) as u8
+}
+
+// Puts bytes into a buffer, at a place.
+pub(crate) fn put(buffer: &mut [u8], at: usize, s: &[u8]) {
+    if buffer.len() < at {
+        return;
     }
-    on(at, 1)
-}
-
-pub(crate) fn put_word(out: &mut [u8], at: usize, w: u16) -> usize {
-    let next = put(out, at, (w % 256) as u8);
-    put(out, next, (w / 256 % 256) as u8)
-}
-
-pub(crate) fn put_double(out: &mut [u8], at: usize, d: u32) -> usize {
-    let next = put_word(out, at, (d % 65536) as u16);
-    put_word(out, next, (d / 65536 % 65536) as u16)
-}
-
-pub(crate) fn put_quad(out: &mut [u8], at: usize, q: u64) -> usize {
-    let next = put_double(out, at, (q % 4294967296) as u32);
-    put_double(out, next, (q / 4294967296 % 4294967296) as u32)
-}
-
-// A length or a count. Those of the package are below 65,536.
-pub(crate) fn put_size(out: &mut [u8], at: usize, n: usize) -> usize {
-    put_word(out, at, (n % 65536) as u16)
-}
-
-pub(crate) fn put_all(out: &mut [u8], at: usize, s: &[u8]) -> usize {
-    let mut i = 0;
-    while i < s.len() {
-        put(out, on(at, i), s[i]);
-        i += 1;
+    if buffer.len() - at < s.len() {
+        return;
     }
-    on(at, i)
+    bytes::copy(s, &mut buffer[at..]);
 }
 
-pub(crate) fn put_list(out: &mut [u8], at: usize, s: &[u8]) -> usize {
-    let next = put_size(out, at, s.len());
-    put_all(out, next, s)
+// Puts bytes out.
+pub(crate) fn say(s: &[u8]) {
+    io::write_all(STDOUT_FILENO, s);
 }
 
-// Where the bytes are of the list that was put at a place.
-pub(crate) fn list_span(out: &[u8], at: usize) -> Bounds
-    ensures { λ r. ⌜ (r .from ≤ r .to) × (r .to ≤ length (now (out .entry))) ⌝ }
-{
-    span(on(at, 2), size_at(out, at), out.len())
-}
-
-// Ends a result: the length of what was put behind it goes to its front.
-pub(crate) fn ended(out: &mut [u8], end: usize) -> usize {
-    if end < 2 {
-        return 2;
-    }
-    put_size(out, 0, end - 2);
-    end
+pub(crate) fn say_size(n: usize) {
+    let size = [low(n), high(n)];
+    say(&size);
 }

@@ -8,16 +8,10 @@ use Rattle.probe.proofs.rosters.put_places.Statement.{statement}
 use Rattle.probe.proofs.rosters.put_places.Tie as tie
 
 abbrev Inv-loop : tie.InvT-loop
-Inv-loop out₀ at places next₀ i₀ out next i = (i ≤ 254) × (length out ≡ length out₀)
+Inv-loop roster₀ places next₀ i₀ roster next i = (i ≤ 254) × (length roster ≡ length roster₀)
 
 abbrev μ-loop : tie.MeasureT-loop
-μ-loop out₀ at places next₀ i₀ out next i = 254 - i
-
-mul-put-size : tie.Need-mul-put-size Inv-loop μ-loop
-mul-put-size c = search needs
-
-put-size-requires : tie.Need-put-size-requires Inv-loop μ-loop
-put-size-requires c κs = search needs
+μ-loop roster₀ places next₀ i₀ roster next i = 254 - i
 
 loop-holds : tie.Need-loop-holds Inv-loop μ-loop
 loop-holds c = search needs
@@ -52,8 +46,6 @@ put-places-spec =
     (tie.spec
     Inv-loop
     μ-loop
-    mul-put-size
-    put-size-requires
     loop-holds
     mul-put-place
     array-copy-out-put-place

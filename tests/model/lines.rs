@@ -1,0 +1,86 @@
+//! The lines of the listing, each with its 0A.
+
+use crate::number;
+use crate::{comlynx, eversolar, fronius, hand_over, not_written, Written};
+
+/// What a message's line tells after the port and the answer, field after field, as bytes.
+pub struct Fields {
+    pub from: Vec<u8>,
+    pub to: Vec<u8>,
+    pub code: Vec<u8>,
+    pub data: Vec<u8>,
+}
+
+/// Source and destination are 16 bits, high byte first as on the wire; the code is the type byte
+/// (case L1).
+pub fn of_comlynx(message: &comlynx::Message) -> Fields {
+    Fields {
+        from: message.source.to_be_bytes().to_vec(),
+        to: message.destination.to_be_bytes().to_vec(),
+        code: vec![message.kind],
+        data: message.data.clone(),
+    }
+}
+
+/// "Eversolar's code is control and function".
+pub fn of_eversolar(message: &eversolar::Message) -> Fields {
+    Fields {
+        from: message.source.to_vec(),
+        to: message.destination.to_vec(),
+        code: vec![message.control, message.function],
+        data: message.data.clone(),
+    }
+}
+
+/// "Fronius has `-` for from, and device with number for to."
+pub fn of_fronius(message: &fronius::Message) -> Fields {
+    Fields {
+        from: vec![],
+        to: vec![message.device, message.number],
+        code: vec![message.command],
+        data: message.data.clone(),
+    }
+}
+
+pub const HEADER: &str = "port answer from to code data\n";
+
+pub fn message(port: u8, fields: &Fields) -> String {
+    let (from, to) = (field(&fields.from), field(&fields.to));
+    let (code, data) = (field(&fields.code), field(&fields.data));
+    format!("{port} 1 {from} {to} {code} {data}\n")
+}
+
+/// "Hex is upper case; no data prints `-`."
+fn field(bytes: &[u8]) -> String {
+    if bytes.is_empty() {
+        return "-".to_string();
+    }
+    bytes.iter().map(|byte| format!("{byte:02X}")).collect()
+}
+
+/// "A damage line is port and number."
+pub fn damage(port: u8, number: u8) -> String {
+    format!("{port} {number}\n")
+}
+
+/// "prints `stop` and its number".
+pub fn stop(number: u8) -> String {
+    format!("stop {number}\n")
+}
+
+/// "an end line with both counts in decimal".
+pub fn end(messages: u64, damages: u64) -> String {
+    format!("end {messages} {damages}\n")
+}
+
+/// No message has a field of more bytes.
+const LONGEST_FIELD: usize = 255;
+
+/// "Writers test 8, then 9".
+pub fn write_message(port: u8, fields: &Fields, lent: &mut [u8]) -> Written {
+    let lists = [&fields.from, &fields.to, &fields.code, &fields.data];
+    if lists.iter().any(|list| list.len() > LONGEST_FIELD) {
+        return not_written(number::DATA_TOO_LONG);
+    }
+    hand_over(message(port, fields).as_bytes(), lent)
+}

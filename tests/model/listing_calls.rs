@@ -1,0 +1,635 @@
+//! Calls of the listing's lines, of the readers of all ports and of the listing packet by packet.
+
+use crate::calls::{
+    after, forged_call, fresh_state, grid_calls, head_with, lent_to_reader, op, shape, state_of,
+    state_on_the_way, Call, Making,
+};
+use crate::random::Random;
+use crate::streams::{self, Family, FAMILIES};
+use right::{lines, packet, probe};
+
+// ---- lines ----
+
+const LINES: &str = "lines of the listing";
+const LINE_ROOMS: &str = "lines of the listing, every lent length";
+
+fn header_line() -> Making {
+    op(0x81)
+}
+
+fn damage_line(port: u8, number: u8) -> Making {
+    op(0x83).b(port).b(number)
+}
+
+fn stop_line(number: u8) -> Making {
+    op(0x84).b(number)
+}
+
+fn end_line(messages: u64, damages: u64) -> Making {
+    op(0x85).q(messages).q(damages)
+}
+
+/// A message's line with fields of these lengths, and how many bytes the line has.
+fn message_line(port: u8, lengths: [usize; 4], random: &mut Random) -> (Making, usize) {
+    let [from, to, code, data] = lengths.map(|length| random.content(length));
+    let making = op(0x82).b(port).list(&from).list(&to).list(&code).list(&data);
+    let exact = lines::message(port, &lines::Fields { from, to, code, data }).len();
+    (making, exact)
+}
+
+/// How many bytes a line has that no length of a field refuses.
+fn exact_length(line: &Making) -> usize {
+    let result = probe::answer(&line.again().list(&[0; 100]).bytes).expect("a whole call");
+    usize::from(result[1]) + 256 * usize::from(result[2])
+}
+
+fn every_room(line: Making, exact: usize, random: &mut Random, calls: &mut Vec<Call>) {
+    for room in 0..=exact + 2 {
+        calls.push(line.again().list(&random.bytes(room)).from(LINE_ROOMS));
+    }
+}
+
+fn telling_room(line: Making, exact: usize, random: &mut Random) -> Call {
+    let anything = random.between(0, exact);
+    let room = random.pick(&[0, anything, exact - 1, exact - 1, exact, exact, exact + 1, 2100]);
+    line.list(&random.bytes(room)).from(LINES)
+}
+
+/// Where a number gets a digit more, from both sides.
+fn counts_of_digits() -> Vec<u64> {
+    let powers = (0..20).map(|digits| 10_u64.pow(digits));
+    let both_sides = powers.flat_map(|power| [power - 1, power, power + 1]);
+    both_sides.chain([15_728_640, 1 << 32, 1 << 63, u64::MAX - 1, u64::MAX]).collect()
+}
+
+const BYTES_OF_DIGITS: [u8; 11] = [0, 1, 2, 9, 10, 11, 99, 100, 101, 200, 255];
+const FIELD_LENGTHS: [usize; 5] = [0, 1, 2, 255, 256];
+
+pub fn line_sweep(random: &mut Random, calls: &mut Vec<Call>) {
+    for line in [
+        header_line(),
+        damage_line(1, 2),
+        damage_line(255, 255),
+        stop_line(9),
+        stop_line(13),
+        end_line(0, 0),
+        end_line(u64::MAX, u64::MAX),
+    ] {
+        let exact = exact_length(&line);
+        every_room(line, exact, random, calls);
+    }
+    let (line, exact) = message_line(3, [2, 2, 2, 9], random);
+    every_room(line, exact, random, calls);
+    line_digits(random, calls);
+    line_fields(random, calls);
+    calls.push(longest_call(false, random));
+}
+
+fn line_digits(random: &mut Random, calls: &mut Vec<Call>) {
+    for byte in 0..=255 {
+        let other = random.pick(&BYTES_OF_DIGITS);
+        for line in [stop_line(byte), damage_line(byte, other), damage_line(other, byte)] {
+            let exact = exact_length(&line);
+            for room in [exact - 1, exact, exact + 1] {
+                calls.push(line.again().list(&random.bytes(room)).from(LINES));
+            }
+        }
+        let (line, exact) = message_line(byte, [2, 2, 1, 1], random);
+        calls.push(line.list(&random.bytes(exact)).from(LINES));
+    }
+    let counts = counts_of_digits();
+    for &count in &counts {
+        let other = random.pick(&counts);
+        for line in [end_line(count, other), end_line(other, count), end_line(count, count)] {
+            let exact = exact_length(&line);
+            calls.push(line.again().list(&random.bytes(exact)).from(LINES));
+            calls.push(telling_room(line, exact, random));
+        }
+    }
+}
+
+/// Fields of every telling length, up to the first that is too long; one that is too long with
+/// every kind of room.
+fn line_fields(random: &mut Random, calls: &mut Vec<Call>) {
+    for from in FIELD_LENGTHS {
+        for to in FIELD_LENGTHS {
+            for code in FIELD_LENGTHS {
+                for data in FIELD_LENGTHS {
+                    let port = random.pick(&[1, 2, 3, 3, 10, 255]);
+                    let (line, exact) = message_line(port, [from, to, code, data], random);
+                    calls.push(telling_room(line, exact, random));
+                }
+            }
+        }
+    }
+    for place in 0..4 {
+        for length in [254, 255, 256, 257, 300] {
+            let mut lengths = [1; 4];
+            lengths[place] = length;
+            let (line, exact) = message_line(1, lengths, random);
+            for room in [0, exact - 1, exact, 2100] {
+                calls.push(line.again().list(&random.bytes(room)).from(LINES));
+            }
+        }
+    }
+}
+
+/// The longest call there may be, or one of a byte more.
+pub fn longest_call(is_too_long: bool, random: &mut Random) -> Call {
+    let lists = [16_384, 16_384, 16_384, 16_372 - 100 + usize::from(is_too_long)];
+    let (line, _) = message_line(1, lists, random);
+    line.list(&random.bytes(100)).from(LINES)
+}
+
+pub fn random_line(random: &mut Random) -> Call {
+    let (line, exact) = match random.below(4) {
+        0 => {
+            let line = damage_line(random.byte(), random.byte());
+            let exact = exact_length(&line);
+            (line, exact)
+        }
+        1 => {
+            let messages = random.next() >> random.below(64);
+            let line = end_line(messages, random.next() >> random.below(64));
+            let exact = exact_length(&line);
+            (line, exact)
+        }
+        _ => {
+            let length = random.pick(&[0, 1, 2, 20, 254, 255, 256]);
+            let from = random.pick(&[0, 2, 2, 255]);
+            let lengths = [from, 2, random.between(0, 3), length];
+            message_line(random.byte() >> random.below(8), lengths, random)
+        }
+    };
+    telling_room(line, exact, random)
+}
+
+// ---- words ----
+
+const WORDS: &str = "Eversolar words";
+
+pub fn word_sweep(random: &mut Random, calls: &mut Vec<Call>) {
+    for byte in 0..=255 {
+        calls.push(op(0x36).b(byte).b(random.special()).from(WORDS));
+        calls.push(op(0x36).b(random.special()).b(byte).from(WORDS));
+        calls.push(op(0x37).b(byte).b(random.special()).from(WORDS));
+        calls.push(op(0x37).b(random.special()).b(byte).from(WORDS));
+    }
+}
+
+pub fn random_word(random: &mut Random) -> Call {
+    op(random.pick(&[0x36, 0x37])).w(random.word()).from(WORDS)
+}
+
+// ---- ports ----
+
+const PORTS: &str = "all ports, states and ports of every kind";
+const PORTS_GRID: &str = "all ports, limits of the states";
+const PORTS_LENT: &str = "all ports, every lent length";
+const PORTS_FORGED: &str = "all ports, forged states";
+const PORTS_CHAIN: &str = "all ports, streams in pieces";
+/// The bytes of PORTS: the three states.
+const PORTS_BYTES: usize = 268 + 268 + 135;
+
+/// The states of the three readers, as bytes.
+type States = [Vec<u8>; 3];
+
+fn fresh_states() -> States {
+    FAMILIES.map(|family| fresh_state(shape(family)))
+}
+
+/// A state that is outside its range.
+fn spoilt_state(family: Family, random: &mut Random) -> Vec<u8> {
+    let shape = shape(family);
+    let held = random.content(shape.held);
+    let (stage, count) = random.pick(&[(0, 4), (4, 0), (255, 0), (1, 267), (2, 65_535)]);
+    state_of(shape, &held, stage, count, 0)
+}
+
+/// A state that reading has left, or a fresh one.
+fn good_state(family: Family, random: &mut Random) -> Vec<u8> {
+    let shape = shape(family);
+    if random.one_in(3) {
+        return fresh_state(shape);
+    }
+    let begin = state_of(shape, &random.specials(shape.held), 0, 0, 0);
+    let frame = streams::frame(family, random);
+    let cut = random.between(0, frame.len() - 1);
+    let call = op(shape.op).raw(&begin).list(&frame[..cut]).list(&[0; 255]).bytes;
+    after(shape, &call).2
+}
+
+/// States that are spoilt where a bit of `spoilt` says so.
+fn states_with(spoilt: usize, random: &mut Random) -> States {
+    let mut state = |place: usize| match spoilt >> place & 1 {
+        1 => spoilt_state(FAMILIES[place], random),
+        _ => good_state(FAMILIES[place], random),
+    };
+    [state(0), state(1), state(2)]
+}
+
+fn port_call(states: &States, port: u8, piece: &[u8], lent: &[u8]) -> Making {
+    op(0x87).raw(&states.concat()).b(port).list(piece).list(lent)
+}
+
+/// The number, the bytes used and the next states the call must give.
+fn after_a_port(call: &[u8], lent: usize) -> (u8, usize, States) {
+    let result = probe::answer(call).expect("a whole call");
+    let used = usize::from(result[1]) + 256 * usize::from(result[2]);
+    let end = result.len() - 2 - lent;
+    (result[0], used, cut_into_states(&result[end - PORTS_BYTES..end]))
+}
+
+fn cut_into_states(ports: &[u8]) -> States {
+    [ports[..268].to_vec(), ports[268..536].to_vec(), ports[536..PORTS_BYTES].to_vec()]
+}
+
+/// A reader's call made through its port, beside other states.
+fn through_its_port(family: Family, call: &Call, random: &mut Random) -> Making {
+    let spoilt = random.pick(&[0, 0, 0, 7]);
+    let mut states = states_with(spoilt, random);
+    let (state, rest) = call.bytes[1..].split_at(shape(family).state);
+    states[place_of(family)] = state.to_vec();
+    op(0x87).raw(&states.concat()).b(place_of(family) as u8 + 1).raw(rest)
+}
+
+fn place_of(family: Family) -> usize {
+    FAMILIES.iter().position(|&other| other == family).expect("one of the three")
+}
+
+pub fn port_sweep(random: &mut Random, calls: &mut Vec<Call>) {
+    for port in [0, 1, 2, 3, 4, 5, 255] {
+        for spoilt in 0..8 {
+            for lent in [0, 254, 255, 256] {
+                let states = states_with(spoilt, random);
+                let family = FAMILIES[usize::from(port).saturating_sub(1).min(2)];
+                let frame = streams::frame(family, random);
+                let lent = random.bytes(lent);
+                calls.push(port_call(&states, port, &frame, &lent).from(PORTS));
+            }
+        }
+    }
+    for length in (0..=258).chain([532, 8192, 16_384]) {
+        let family = FAMILIES[length % 3];
+        let frame = streams::frame(family, random);
+        let port = (length % 3) as u8 + 1;
+        let lent = random.bytes(length);
+        calls.push(port_call(&fresh_states(), port, &frame, &lent).from(PORTS_LENT));
+    }
+    for family in FAMILIES {
+        for call in grid_calls(family, random) {
+            if random.one_in(3) {
+                calls.push(through_its_port(family, &call, random).from(PORTS_GRID));
+            }
+        }
+    }
+}
+
+pub fn random_port(random: &mut Random) -> Call {
+    let family = random.pick(&FAMILIES);
+    let call = forged_call(family, random);
+    through_its_port(family, &call, random).from(PORTS_FORGED)
+}
+
+/// The streams of the three ports in turn, in pieces, "each piece called on until it is used up".
+pub fn port_chain(random: &mut Random, calls: &mut Vec<Call>) {
+    let least = random.pick(&[20, 60, 300]);
+    let streams = FAMILIES.map(|family| streams::stream(family, random, least));
+    let longest_piece = random.pick(&[1, 5, 40, 300]);
+    let (mut states, mut places) = (fresh_states(), [0; 3]);
+    for _ in 0..30 {
+        let port = random.below(3);
+        let rest = &streams[port][places[port]..];
+        let mut piece = &rest[..random.between(1, longest_piece).min(rest.len())];
+        places[port] += piece.len();
+        loop {
+            let lent = lent_to_reader(random);
+            let call = port_call(&states, port as u8 + 1, piece, &lent).from(PORTS_CHAIN);
+            let (number, used, next) = after_a_port(&call.bytes, lent.len());
+            calls.push(call);
+            states = next;
+            piece = &piece[used..];
+            if number == 0 {
+                break;
+            }
+        }
+    }
+}
+
+// ---- listings packet by packet ----
+
+const COUNTS: &str = "listing by packets, limits of the counts";
+const ROOMS: &str = "listing by packets, lent lengths";
+const CUTS: &str = "listing by packets, packets cut anywhere";
+const HEADS: &str = "listing by packets, wrong heads";
+const STATES: &str = "listing by packets, spoilt states";
+const CHAIN: &str = "listing by packets, a whole input";
+const ANY: &str = "listing by packets, forged listings";
+const BUSY: &str = "listing by packets, packets of many lines";
+
+const MOST_PACKETS: u64 = 65_536;
+const LINES_OF_A_PACKET: u64 = 240;
+const ENOUGH: usize = 8192;
+
+/// What a listing is made of.
+struct Listing {
+    states: States,
+    packets: u64,
+    messages: u64,
+    damages: u64,
+}
+
+impl Listing {
+    fn of_counts(packets: u64, messages: u64, damages: u64, random: &mut Random) -> Listing {
+        Listing { states: states_with(0, random), packets, messages, damages }
+    }
+
+    fn fresh() -> Listing {
+        Listing { states: fresh_states(), packets: 0, messages: 0, damages: 0 }
+    }
+
+    /// Counts in their range, mostly.
+    fn on_the_way(states: States, random: &mut Random) -> Listing {
+        let anywhere = random.below(65_537) as u64;
+        let packets = random.pick(&[0, 1, 10, 65_534, 65_535, 65_535, 65_536, anywhere]);
+        let most = packets * LINES_OF_A_PACKET;
+        let over = u64::from(random.one_in(24));
+        let any = [random.next() % (most + 1), random.next() % (most + 1)];
+        let messages = random.pick(&[any[0], any[0], 0, most]) + over * random.pick(&[0, most + 1]);
+        let damages = random.pick(&[any[1], any[1], 0, most]) + over;
+        Listing { states, packets, messages, damages }
+    }
+
+    fn call(&self, ended: bool, input: &[u8], lent: &[u8]) -> Making {
+        let making = op(0x89).raw(&self.states.concat());
+        let making = making.q(self.packets).q(self.messages).q(self.damages);
+        making.b(u8::from(ended)).list(input).list(lent)
+    }
+
+    /// The call, with just enough lent.
+    fn enough_lent(&self, ended: bool, input: &[u8], random: &mut Random) -> Making {
+        self.call(ended, input, &random.bytes(ENOUGH))
+    }
+}
+
+/// A packet with a frame of its port's family, or a part of it.
+fn packet_of_a_frame(random: &mut Random) -> Vec<u8> {
+    let place = random.below(3);
+    let mut frame = streams::frame(FAMILIES[place], random);
+    frame.truncate(240);
+    packet::packet(place as u8 + 1, &frame)
+}
+
+/// Inputs of every kind: nothing, whole packets, packets cut, and packets refused.
+fn telling_inputs(random: &mut Random) -> Vec<Vec<u8>> {
+    let whole = packet_of_a_frame(random);
+    let last = whole.len() - 1;
+    let two = [whole.clone(), packet_of_a_frame(random)].concat();
+    let with = |place: usize, value: u8| {
+        let mut spoilt = whole.clone();
+        spoilt[place] = value;
+        spoilt
+    };
+    let mut inputs = vec![
+        vec![],
+        whole[..1].to_vec(),
+        whole[..6].to_vec(),
+        whole[..7].to_vec(),
+        whole[..last].to_vec(),
+        two,
+        with(0, 0),
+        with(4, 2),
+        with(5, 0),
+        with(5, 4),
+        with(6, 0),
+        with(6, 241),
+        vec![0],
+    ];
+    inputs.push(whole);
+    inputs
+}
+
+pub fn listing_sweep(random: &mut Random, calls: &mut Vec<Call>) {
+    listing_counts(random, calls);
+    listing_rooms(random, calls);
+    listing_cuts(random, calls);
+    listing_heads(random, calls);
+    listing_states(random, calls);
+    listing_busy(random, calls);
+}
+
+/// Counts on both sides of every limit; where they are in their range, every kind of input.
+fn listing_counts(random: &mut Random, calls: &mut Vec<Call>) {
+    let wraps = u64::MAX / LINES_OF_A_PACKET + 1;
+    let packets_of_telling = [
+        0,
+        1,
+        2,
+        65_535,
+        MOST_PACKETS,
+        MOST_PACKETS + 1,
+        1 << 17,
+        1 << 32,
+        (1 << 32) + 2,
+        wraps,
+        wraps + 1,
+        u64::MAX,
+    ];
+    for packets in packets_of_telling {
+        let most = packets.wrapping_mul(LINES_OF_A_PACKET);
+        let lines = [0, most.wrapping_sub(1), most, most.wrapping_add(1), u64::MAX];
+        for messages in lines {
+            for damages in lines {
+                let listing = Listing::of_counts(packets, messages, damages, random);
+                let inputs = telling_inputs(random);
+                let input = &inputs[random.below(inputs.len())];
+                let lent = random.pick(&[8191, 8192, 8192, 8192, 8193]);
+                let making = listing.call(random.one_in(2), input, &random.bytes(lent));
+                calls.push(making.from(COUNTS));
+            }
+        }
+    }
+    for packets in [0, 1, 65_535, MOST_PACKETS, MOST_PACKETS + 1] {
+        let most = packets * LINES_OF_A_PACKET;
+        for (messages, damages) in [(most, 0), (0, most), (most + 1, 0), (0, most + 1)] {
+            for input in telling_inputs(random) {
+                let listing = Listing::of_counts(packets, messages, damages, random);
+                let ended = random.one_in(2);
+                calls.push(listing.enough_lent(ended, &input, random).from(COUNTS));
+            }
+        }
+    }
+}
+
+/// Too little lent and enough, with counts in and out of their range.
+fn listing_rooms(random: &mut Random, calls: &mut Vec<Call>) {
+    for length in [0, 1, 254, 255, 4096, 8190, 8191, 8192, 8193, 16_384] {
+        for input in telling_inputs(random) {
+            let spoilt = u64::from(random.one_in(4));
+            let listing = Listing::of_counts(7, 7 * 240 + spoilt, 7 * 240, random);
+            let making = listing.call(random.one_in(2), &input, &random.bytes(length));
+            calls.push(making.from(ROOMS));
+        }
+    }
+}
+
+/// A packet and what follows it, cut at every place, at the end of the input and before it.
+fn listing_cuts(random: &mut Random, calls: &mut Vec<Call>) {
+    for place in 0..3 {
+        let frame = streams::frame_with(FAMILIES[place], random, vec![0x11; 3]);
+        let both = [packet::packet(place as u8 + 1, &frame), packet_of_a_frame(random)].concat();
+        for cut in 0..=(7 + frame.len() + 8) {
+            for ended in [false, true] {
+                let listing = Listing { states: fresh_states(), ..with_some_counts(random) };
+                calls.push(listing.enough_lent(ended, &both[..cut], random).from(CUTS));
+            }
+        }
+    }
+    let longest = packet::packet(random.between(1, 3) as u8, &random.content(240));
+    for cut in (0..=longest.len()).filter(|cut| cut % 8 == 0 || *cut > 237) {
+        let listing = with_some_counts(random);
+        calls.push(listing.enough_lent(cut % 16 == 0, &longest[..cut], random).from(CUTS));
+    }
+}
+
+fn with_some_counts(random: &mut Random) -> Listing {
+    let packets = random.pick(&[1, 9, 1000, 65_535]);
+    let [messages, damages] = [0, 1].map(|_| random.next() % (packets * LINES_OF_A_PACKET + 1));
+    Listing::of_counts(packets, messages, damages, random)
+}
+
+/// Every byte of the head, and several of them at once, at the end of the input and before it,
+/// and where 65,536 packets are counted.
+fn listing_heads(random: &mut Random, calls: &mut Vec<Call>) {
+    for place in 0..7 {
+        for value in [0, 1, 2, 3, 4, 0x42, 0x52, 0x53, 240, 241, 255] {
+            for length in [6, 7, 8, 247] {
+                let mut input = [packet::packet(1, &[0x7E]), vec![0x7E; 300]].concat();
+                input[place] = value;
+                let listing = with_some_counts(random);
+                let ended = random.one_in(2);
+                let making = listing.enough_lent(ended, &input[..length], random);
+                calls.push(making.from(HEADS));
+            }
+        }
+    }
+    for wrong in 0..16 {
+        for length in [6, 7, 26, 27] {
+            for ended in [false, true] {
+                let input = head_with(wrong, random);
+                let packets = random.pick(&[0, 5, 65_535, 65_536]);
+                let listing = Listing::of_counts(packets, packets, 0, random);
+                let making = listing.enough_lent(ended, &input[..length], random);
+                calls.push(making.from(HEADS));
+            }
+        }
+    }
+}
+
+/// Spoilt states of the packet's port and of others, with everything that is told before.
+fn listing_states(random: &mut Random, calls: &mut Vec<Call>) {
+    for spoilt in 0..8 {
+        for port in [0, 1, 2, 3, 4] {
+            for (packets, over, cut, lent) in [
+                (3, 0, 0, 8192),
+                (3, 0, 1, 8192),
+                (3, 1, 0, 8192),
+                (3, 0, 0, 8191),
+                (65_535, 0, 0, 8192),
+                (65_536, 0, 0, 8192),
+                (3, 0, 1000, 8192),
+            ] {
+                let most = packets * LINES_OF_A_PACKET;
+                let states = states_with(spoilt, random);
+                let listing = Listing { states, packets, messages: most + over, damages: most };
+                let line = streams::frame(FAMILIES[port % 3], random);
+                let input = packet::packet(port as u8, &line[..line.len().min(240)]);
+                let input = &input[..input.len().saturating_sub(cut)];
+                let making = listing.call(random.one_in(2), input, &random.bytes(lent));
+                calls.push(making.from(STATES));
+            }
+        }
+    }
+}
+
+/// Packets that settle as many lines as they can, or a long one and many behind it.
+fn listing_busy(random: &mut Random, calls: &mut Vec<Call>) {
+    let parts: [&[u8]; 6] = [
+        &[0x00, 0x7E],
+        &[0x7D, 0x7E],
+        &[0x7E, 0xFF, 3, 0, 2, 0x11, 0xFF, 0, 0x15, 0x79, 0x91],
+        &[0xAA, 0x55, 1, 0, 0, 0, 0x10, 0, 0, 0x10, 0x01],
+        &[0x80, 0x80, 0x80, 0x81],
+        &[0x80, 0x80, 0x80, 0, 0, 0, 1, 1],
+    ];
+    for (order, part) in parts.iter().enumerate() {
+        let place = [0, 0, 0, 1, 2, 2][order];
+        for first in 0..8 {
+            let frame = streams::frame_with(FAMILIES[place], random, vec![0xA5; first * 16]);
+            let begun = frame.len() - (1 + first).min(frame.len());
+            let begin = fresh_state(shape(FAMILIES[place]));
+            let call = op(shape(FAMILIES[place]).op).raw(&begin).list(&frame[..begun]);
+            let (_, _, state) = after(shape(FAMILIES[place]), &call.list(&[0; 255]).bytes);
+            let mut line = [&frame[begun..], &part.repeat(120)].concat();
+            line.truncate(random.pick(&[240, 240, 239, 120]));
+            let mut listing = with_some_counts(random);
+            listing.states[place] = state;
+            let input = packet::packet(place as u8 + 1, &line);
+            calls.push(listing.enough_lent(random.one_in(2), &input, random).from(BUSY));
+        }
+    }
+}
+
+/// A packet whose line goes on where its port's state stands.
+pub fn random_listing(random: &mut Random) -> Call {
+    let place = random.below(3);
+    let spoilt = random.pick(&[0, 0, 0, 0, 0, 1, 2, 4, 7]);
+    let mut states = states_with(spoilt, random);
+    let (state, mut line) = state_on_the_way(shape(FAMILIES[place]), random);
+    states[place] = state;
+    line.extend(streams::stream(FAMILIES[place], random, 10));
+    line.truncate(random.pick(&[1, 10, 100, 240, 240, 240]));
+    let mut input = packet::packet(place as u8 + 1, &line);
+    if random.one_in(4) {
+        streams::spoil_a_head(&mut input, random);
+    }
+    match random.below(4) {
+        0 => input.extend(packet_of_a_frame(random)),
+        1 if random.one_in(2) => input.truncate(random.between(0, input.len())),
+        _ => {}
+    }
+    let listing = Listing::on_the_way(states, random);
+    let lent = random.pick(&[8192, 8192, 8192, 8192, 8192, 8192, 8192, 8193, 8191]);
+    listing.call(random.one_in(2), &input, &random.bytes(lent)).from(ANY)
+}
+
+/// A whole input, more and more of it at hand, until its listing ends.
+pub fn listing_chain(random: &mut Random, calls: &mut Vec<Call>) {
+    let whole = streams::listing_input(random);
+    let more = random.pick(&[1, 9, 300, 2000]);
+    let (mut listing, mut ended) = (Listing::fresh(), false);
+    let (mut place, mut at_hand) = (0, 0);
+    for _ in 0..24 {
+        let input = &whole[place..at_hand.max(place)];
+        let call = listing.enough_lent(ended, input, random).from(CHAIN);
+        let result = probe::answer(&call.bytes).expect("a whole call");
+        calls.push(call);
+        place += usize::from(result[2]) + 256 * usize::from(result[3]);
+        listing = listing_in(&result[6..]);
+        match result[1] {
+            1 if at_hand == whole.len() => ended = true,
+            1 => at_hand = whole.len().min(at_hand + random.between(1, more)),
+            2 => {}
+            _ => break,
+        }
+    }
+}
+
+fn listing_in(bytes: &[u8]) -> Listing {
+    let count = |place: usize| {
+        let begin = PORTS_BYTES + 8 * place;
+        u64::from_le_bytes(bytes[begin..begin + 8].try_into().expect("eight bytes"))
+    };
+    let states = cut_into_states(bytes);
+    Listing { states, packets: count(0), messages: count(1), damages: count(2) }
+}

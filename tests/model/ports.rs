@@ -1,0 +1,33 @@
+//! The readers of all ports together.
+
+use crate::lines::{self, Fields};
+use crate::number;
+use crate::{comlynx, eversolar, fronius, Reading};
+
+/// "one reader a port". The families stand in the paper's order: ComLynx on port 1 (case L1),
+/// Eversolar on 2, Fronius on 3.
+#[derive(Clone)]
+pub struct Ports {
+    pub comlynx: comlynx::State,
+    pub eversolar: eversolar::State,
+    pub fronius: fronius::State,
+}
+
+pub fn fresh() -> Ports {
+    Ports { comlynx: comlynx::fresh(), eversolar: eversolar::fresh(), fronius: fronius::fresh() }
+}
+
+/// One call of the reader of a port. "port 1 to 3", else 12, whatever else.
+pub fn read(ports: &mut Ports, port: u8, piece: &[u8], lent: &mut [u8]) -> Reading<Fields> {
+    match port {
+        1 => as_fields(comlynx::read(&mut ports.comlynx, piece, lent), lines::of_comlynx),
+        2 => as_fields(eversolar::read(&mut ports.eversolar, piece, lent), lines::of_eversolar),
+        3 => as_fields(fronius::read(&mut ports.fronius, piece, lent), lines::of_fronius),
+        _ => Reading { number: number::PORT_OR_COUNT, used: 0, message: None },
+    }
+}
+
+fn as_fields<M>(reading: Reading<M>, fields: fn(&M) -> Fields) -> Reading<Fields> {
+    let Reading { number, used, message } = reading;
+    Reading { number, used, message: message.as_ref().map(fields) }
+}
