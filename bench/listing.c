@@ -1,14 +1,6 @@
 /* `sbrlist` in plain C, for the bench to measure beside: the same listing, byte for byte. A state machine for each family,
- * its state in a struct; input and output through buffers of 64 KiB, and a packet's bytes read where they lie. No header is
- * at hand where this is built. */
-typedef unsigned char u8;
-typedef unsigned short u16;
-typedef unsigned int u32;
-typedef unsigned long size;
-
-long read(int file, void *to, size most);
-long write(int file, const void *from, size count);
-void *memmove(void *to, const void *from, size count);
+ * its state in a struct; input and output through buffers of 64 KiB, and a packet's bytes read where they lie. */
+#include "host.h"
 
 /* document 01's answer numbers */
 enum {

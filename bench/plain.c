@@ -1,14 +1,7 @@
 /* The readers of document 01 in plain C, for the bench to measure beside: a state machine each, byte by byte, its state
  * in a struct. Reads what `pace` reads, and prints the line that it prints. All stands in one file, so that the compiler
- * may put a reader into its host's loop, as it may in `pace`. No header is at hand where this is built. */
-typedef unsigned char u8;
-typedef unsigned short u16;
-typedef unsigned int u32;
-typedef unsigned long size;
-
-long read(int file, void *to, size most);
-long write(int file, const void *from, size count);
-void *memcpy(void *to, const void *from, size count);
+ * may put a reader into its host's loop, as it may in `pace`. */
+#include "host.h"
 
 /* document 01's answer numbers */
 enum {
@@ -361,28 +354,6 @@ static size checked(size check, u8 code, const u8 *data, size n)
 OF(comlynx, kind)
 OF(eversolar, function)
 OF(fronius, command)
-
-static void print(size n, char after)
-{
-    char text[21];
-    size at = 20;
-    text[20] = after;
-    do {
-        text[--at] = (char)('0' + n % 10);
-        n /= 10;
-    } while (n);
-    write(1, text + at, 21 - at);
-}
-
-/* reads until there are so many bytes or no more */
-static size read_full(u8 *to, size most)
-{
-    size len = 0;
-    long more;
-    while (len < most && (more = read(0, to + len, most - len)) > 0)
-        len += (size)more;
-    return len;
-}
 
 int main(void)
 {

@@ -1,13 +1,7 @@
 /* Giving an address by the roster of document 01 in plain C, for the bench to measure beside: the same bytes, the same tests in the same
  * order, serials compared by memcmp, which the compiler makes a comparison of 16 bytes at once. Reads what `roster_pace` reads, and writes
- * what it writes. No header is at hand where this is built. */
-typedef unsigned char u8;
-typedef unsigned long size;
-
-long read(int file, void *to, size most);
-long write(int file, const void *from, size count);
-void *memcpy(void *to, const void *from, size count);
-int memcmp(const void *a, const void *b, size count);
+ * what it writes. */
+#include "host.h"
 
 /* document 01's answer numbers */
 enum { FULL = 14, UNFIT = 17, SPOILT = 18 };
@@ -87,27 +81,6 @@ static size given(u8 *roster, size n, const u8 *serial, size times)
     for (size k = 0; k < times; k++)
         sum += told(give(roster, n, serial, SERIAL));
     return sum;
-}
-
-static size read_full(u8 *to, size most)
-{
-    size len = 0;
-    long more;
-    while (len < most && (more = read(0, to + len, most - len)) > 0)
-        len += (size)more;
-    return len;
-}
-
-static void print(size n, char after)
-{
-    char text[21];
-    size at = 20;
-    text[20] = after;
-    do {
-        text[--at] = (char)('0' + n % 10);
-        n /= 10;
-    } while (n);
-    write(1, text + at, 21 - at);
 }
 
 int main(void)

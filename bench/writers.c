@@ -1,13 +1,6 @@
 /* The writers of document 01 and the ComLynx checksum in plain C, for the bench to measure beside. Reads what `write_pace` reads, and
- * writes what it writes. No header is at hand where this is built. */
-typedef unsigned char u8;
-typedef unsigned short u16;
-typedef unsigned int u32;
-typedef unsigned long size;
-
-long read(int file, void *to, size most);
-long write(int file, const void *from, size count);
-void *memcpy(void *to, const void *from, size count);
+ * writes what it writes. */
+#include "host.h"
 
 /* document 01's answer numbers */
 enum { TOO_LONG = 8, NO_ROOM = 9 };
@@ -177,27 +170,6 @@ static size checksums(size times, const u8 *data, size n)
     for (size k = 0; k < times; k++)
         state = fcs_more(state, data, n);
     return state;
-}
-
-static size read_full(u8 *to, size most)
-{
-    size len = 0;
-    long more;
-    while (len < most && (more = read(0, to + len, most - len)) > 0)
-        len += (size)more;
-    return len;
-}
-
-static void print(size n, char after)
-{
-    char text[21];
-    size at = 20;
-    text[20] = after;
-    do {
-        text[--at] = (char)('0' + n % 10);
-        n /= 10;
-    } while (n);
-    write(1, text + at, 21 - at);
 }
 
 int main(void)
