@@ -54,7 +54,7 @@ cases =
     -- its limit: 255 data bytes that are all 7E, written and read back
     ∷ case 2 (ComLynxRules.rule false (ComLynxWire.wire allFlags)) (reads allFlags (length (ComLynxWire.wire allFlags)))
     -- P3: off-line query
-    ∷ case 3 (EversolarWire.wire (EversolarRequests.askAll OffLine)) (0xAA ∷ 0x55 ∷ 0x01 ∷ 0x00 ∷ 0x00 ∷ 0x00 ∷ 0x10 ∷ 0x00 ∷ 0x00 ∷ 0x10 ∷ 0x01 ∷ [])
+    ∷ case 3 (EversolarWire.wire (EversolarRequests.askAll OffLine)) (0xAA ∷ 0x55 ∷ 0x01 ∷ 0x00 ∷ 0x00 ∷ 0x00 ∷ 0x10 ∷ 0x00 ∷ 0x00 ∷ 0x01 ∷ 0x10 ∷ [])
     -- P4: get version, written and read
     ∷ case 4 (FroniusWire.wire getVersion) (0x80 ∷ 0x80 ∷ 0x80 ∷ 0x00 ∷ 0x00 ∷ 0x00 ∷ 0x01 ∷ 0x01 ∷ [])
     ∷ case 4 (FroniusRules.rule tt (0x80 ∷ 0x80 ∷ 0x80 ∷ 0x00 ∷ 0x00 ∷ 0x00 ∷ 0x01 ∷ 0x01 ∷ [])) (reads getVersion 8)

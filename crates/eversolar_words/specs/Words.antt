@@ -8,9 +8,9 @@ pub data Order : Type 0 where
   lowFirst : Order
   highFirst : Order
 
--- words go low byte first
+-- words go high byte first
 abbrev pub order : Order
-order = lowFirst
+order = highFirst
 
 -- a word from its two bytes
 abbrev pub joined : Order → ℕ → ℕ → ℕ

@@ -11,7 +11,7 @@ pub struct Pair {
 pub fn word(first: u8, second: u8) -> u16
     ensures { λ r. ⌜ IsWord first second r ⌝ }
 {
-    256 * (second as u16) + first as u16
+    256 * (first as u16) + second as u16
 }
 
 // The two bytes of a word.
@@ -19,7 +19,7 @@ pub fn bytes_of(word: u16) -> Pair
     ensures { λ r. ⌜ IsBytesOf word r ⌝ }
 {
     Pair {
-        first: (word % 256) as u8,
-        second: (word / 256) as u8,
+        first: (word / 256) as u8,
+        second: (word % 256) as u8,
     }
 }
