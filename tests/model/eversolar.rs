@@ -1,4 +1,4 @@
-//! "Eversolar on the wire".
+//! "Eversolar on the wire", with the order of the words that document 02, Req 03, corrects.
 
 use crate::number;
 use crate::{hand_over, not_written, one_call, Data, Event, Outcome, Reading, Written};
@@ -11,7 +11,7 @@ pub const MASTER: [u8; 2] = [0x01, 0x00];
 const BEFORE_THE_DATA: usize = 9;
 
 /// "for Eversolar source and destination (two bytes each, as sent), control, function,
-/// 0 to 255 data bytes".
+/// 0 to 255 data bytes". As sent: an address is no word, and no order of words turns it.
 pub struct Message {
     pub source: [u8; 2],
     pub destination: [u8; 2],
@@ -37,7 +37,7 @@ pub fn frame(message: &Message) -> Vec<u8> {
     frame.push(message.data.len() as u8);
     frame.extend(&message.data);
     let sum = sum_of(&frame);
-    frame.extend(word_low_first(sum));
+    frame.extend(high_byte_first(sum));
     frame
 }
 
@@ -47,13 +47,13 @@ pub fn sum_of(earlier: &[u8]) -> u16 {
     (sum % 65_536) as u16
 }
 
-/// "words (checksum and data words) go low byte first".
-pub fn word_low_first(word: u16) -> [u8; 2] {
-    [(word % 256) as u8, (word / 256) as u8]
+/// Document 02, Req 03: "checksum and data words go high byte first".
+pub fn high_byte_first(word: u16) -> [u8; 2] {
+    [(word / 256) as u8, (word % 256) as u8]
 }
 
 pub fn word_of(first: u8, second: u8) -> u16 {
-    u16::from(first) + 256 * u16::from(second)
+    256 * u16::from(first) + u16::from(second)
 }
 
 /// "Writers test 8, then 9".
@@ -94,7 +94,7 @@ fn place_of_header(stream: &[u8]) -> Option<usize> {
 /// "at the last byte a wrong sum is 6".
 fn judge_frame(frame: &[u8]) -> Outcome<Message> {
     let (earlier, sum) = frame.split_at(frame.len() - 2);
-    if word_low_first(sum_of(earlier)) != sum {
+    if high_byte_first(sum_of(earlier)) != sum {
         return Err(number::WRONG_SUM);
     }
     Ok(Message {
@@ -175,12 +175,11 @@ fn hold(state: &mut State, byte: u8) {
     state.count += 1;
 }
 
-/// The state's length says where the frame ends; the length byte that is held counts in the sum
-/// alone. Only in a forged state do they differ.
+/// The state's length says where the frame ends, and it is what the sum counts as the length byte.
+/// The length byte that is held differs from it in a forged state only, and counts nowhere.
 fn take_the_last(state: &mut State, byte: u8) -> Outcome<Message> {
     let mut frame = HEADER.to_vec();
     frame.extend(&state.held[..usize::from(state.count)]);
-    // the two differ in a forged state only, and there the state's length counts
     frame[8] = state.length as u8;
     frame.push(byte);
     start_afresh(state);
@@ -257,7 +256,7 @@ pub fn total_energy(control: u8, function: u8, data: &[u8]) -> Result<u32, u8> {
     Ok(item(data, 20) * 65_536 + item(data, 21))
 }
 
-/// "item k being the word at data bytes 2k and 2k+1", low byte first.
+/// "item k being the word at data bytes 2k and 2k+1", high byte first (document 02, Req 03).
 fn item(data: &[u8], k: usize) -> u32 {
     u32::from(word_of(data[2 * k], data[2 * k + 1]))
 }

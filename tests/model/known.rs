@@ -1,11 +1,11 @@
 //! The numbers the paper prints: P1 to P12, L1, and published examples of 000, with their
-//! answers written out.
+//! answers written out. Eversolar's words go as document 02, Req 03, has them.
 
 #[derive(Clone)]
 pub struct KnownCall {
     pub name: &'static str,
     pub call: Vec<u8>,
-    /// How the result begins.
+    /// The whole result.
     pub result: Vec<u8>,
 }
 
@@ -25,7 +25,7 @@ fn known(name: &'static str, call: &str, result: &str) -> KnownCall {
 
 /// Calls whose results are known to the last byte.
 pub fn calls() -> Vec<KnownCall> {
-    [short_calls(), calls_of_l1()].concat()
+    [short_calls(), calls_of_req_03(), calls_of_l1()].concat()
 }
 
 fn short_calls() -> Vec<KnownCall> {
@@ -40,7 +40,7 @@ fn short_calls() -> Vec<KnownCall> {
         known(
             "P3",
             "31 00 0B 00 00 00 00 00 00 00 00 00 00 00 00",
-            "00 0B 00 0B 00 AA 55 01 00 00 00 10 00 00 10 01",
+            "00 0B 00 0B 00 AA 55 01 00 00 00 10 00 00 01 10",
         ),
         known(
             "P4",
@@ -69,9 +69,43 @@ fn short_calls() -> Vec<KnownCall> {
             "11 02 00 03 12 15 00 00 0C 00 00 00 00 00 00 00 00 00 00 00 00 00",
             "00 0C 00 0C 00 7E FF 03 00 02 12 03 00 15 23 9D 7E",
         ),
-        known("checksum of P3, word", "36 10 01", "00 10 01"),
-        known("checksum of P3, bytes", "37 10 01", "00 10 01"),
+        known("checksum of P3, word", "36 01 10", "00 10 01"),
+        known("checksum of P3, bytes", "37 10 01", "00 01 10"),
     ]
+}
+
+const P3: &str = "AA 55 01 00 00 00 10 00 00 01 10";
+const P3_OF_DOCUMENT_01: &str = "AA 55 01 00 00 00 10 00 00 10 01";
+const SUM_THE_SAME_BOTH_WAYS: &str = "AA 55 01 00 00 00 10 00 01 F1 02 02";
+
+/// The order of the words: which sum is right, and what two data words tell.
+fn calls_of_req_03() -> Vec<KnownCall> {
+    let no_message = "06 0B 00 00 00 00 00 00 00 00 00";
+    vec![
+        eversolar_read("P3, read in one call", P3, "01 0B 00 01 00 00 00 10 00 00 00", &[]),
+        eversolar_read("P3 of document 01 is damage", P3_OF_DOCUMENT_01, no_message, &[]),
+        eversolar_read(
+            "a sum the same both ways, read in one call",
+            SUM_THE_SAME_BOTH_WAYS,
+            "01 0C 00 01 00 00 00 10 00 01 00",
+            &[0xF1],
+        ),
+        KnownCall {
+            name: "total energy of 77,883",
+            call: [bytes("34 11 90"), list(&[vec![0; 40], bytes("00 01 30 3B")].concat())].concat(),
+            result: bytes("00 3B 30 01 00"),
+        },
+    ]
+}
+
+/// A fresh reader is called once on a whole frame. Looking starts afresh behind it, and all but
+/// its header and its last byte stay held.
+fn eversolar_read(name: &'static str, frame: &str, told: &str, data: &[u8]) -> KnownCall {
+    let (frame, fresh) = (bytes(frame), vec![0; 268]);
+    let mut later = fresh.clone();
+    later[..frame.len() - 3].copy_from_slice(&frame[2..frame.len() - 1]);
+    let call = [vec![0x02], fresh, list(&frame), lent_with("", 255)].concat();
+    KnownCall { name, call, result: [bytes(told), later, lent_with(data, 255)].concat() }
 }
 
 const HEADER: &str = "port answer from to code data\n";
@@ -101,9 +135,9 @@ fn counts(packets: u64, messages: u64) -> Vec<u8> {
     [packets, messages, 0].map(u64::to_le_bytes).concat()
 }
 
-/// The text at the front of a lent buffer of EE.
-fn lent_with(text: &str, length: usize) -> Vec<u8> {
-    let mut lent = text.as_bytes().to_vec();
+/// The text or the data at the front of a lent buffer of EE.
+fn lent_with(front: impl AsRef<[u8]>, length: usize) -> Vec<u8> {
+    let mut lent = front.as_ref().to_vec();
     lent.resize(length, 0xEE);
     list(&lent)
 }
@@ -201,8 +235,18 @@ pub fn listings() -> Vec<KnownListing> {
         ),
         listing(
             "P3, read",
-            &[(2, "AA 55 01 00 00 00 10 00 00 10 01")],
+            &[(2, P3)],
             "port answer from to code data\n2 1 0100 0000 1000 -\nend 1 0\n",
+        ),
+        listing(
+            "P3 of document 01, read",
+            &[(2, P3_OF_DOCUMENT_01)],
+            "port answer from to code data\n2 6\nend 0 1\n",
+        ),
+        listing(
+            "a sum the same both ways",
+            &[(2, SUM_THE_SAME_BOTH_WAYS)],
+            "port answer from to code data\n2 1 0100 0000 1000 F1\nend 1 0\n",
         ),
         listing(
             "P5, read",
@@ -217,7 +261,7 @@ pub fn listings() -> Vec<KnownListing> {
         ),
         listing(
             "AA AA 55",
-            &[(2, "AA AA 55 01 00 00 00 10 00 00 10 01")],
+            &[(2, "AA AA 55 01 00 00 00 10 00 00 01 10")],
             "port answer from to code data\n2 1 0100 0000 1000 -\nend 1 0\n",
         ),
         listing(

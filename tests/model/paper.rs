@@ -1,4 +1,5 @@
-//! A model of document 01, written from its text alone.
+//! A model of document 01, as the requests of document 02 that have landed correct it, written
+//! from their text alone.
 //!
 //! Each rule is a small function, and the sentence it follows stands above it.
 //! The listing reads all bytes of a port at once, in whole stretches and whole

@@ -349,7 +349,7 @@ fn word_of_two_bytes(calls: &mut Arguments) -> Option<Answer> {
 
 fn two_bytes_of_a_word(calls: &mut Arguments) -> Option<Answer> {
     let word = calls.word()?;
-    Some(Answer::of(number::DONE).bytes(&eversolar::word_low_first(word)))
+    Some(Answer::of(number::DONE).bytes(&eversolar::high_byte_first(word)))
 }
 
 // ---- Fronius values ----

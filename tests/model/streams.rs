@@ -229,15 +229,15 @@ fn break_a_pair(stuffed: &mut Vec<u8>, random: &mut Random) {
     }
 }
 
-/// Sums off by one, high byte first, without the header; headers found late.
+/// Sums off by one, low byte first, without the header; headers found late.
 fn shaped_eversolar(random: &mut Random) -> Vec<u8> {
     let mut frame = frame(Family::Eversolar, random);
     let last = frame.len() - 1;
     match random.below(7) {
         0 => frame.swap(last - 1, last),
-        1 => frame[last - 1] = frame[last - 1].wrapping_add(1),
-        2 => frame[last - 1] = frame[last - 1].wrapping_sub(0xFF),
-        3 => frame[last] = frame[last].wrapping_sub(1),
+        1 => frame[last] = frame[last].wrapping_add(1),
+        2 => leave_the_header_out(&mut frame),
+        3 => frame[last - 1] = frame[last - 1].wrapping_sub(1),
         4 => frame.insert(1, random.special()),
         5 => return [vec![0xAA; random.between(1, 3)], frame].concat(),
         _ => {
@@ -246,6 +246,14 @@ fn shaped_eversolar(random: &mut Random) -> Vec<u8> {
         }
     }
     frame
+}
+
+/// The sum as it is where AA 55 is not counted, which may change both of its bytes.
+fn leave_the_header_out(frame: &mut [u8]) {
+    let place = frame.len() - 2;
+    let sum = eversolar::word_of(frame[place], frame[place + 1]);
+    let header: u16 = eversolar::HEADER.iter().copied().map(u16::from).sum();
+    frame[place..].copy_from_slice(&eversolar::high_byte_first(sum.wrapping_sub(header)));
 }
 
 /// Further 80, too few 80, lengths from 80, sums that take more or less in.
