@@ -39,7 +39,7 @@ def eversolar(rng, data):
     """The frame, and its function."""
     function = rng.randrange(256)
     front = b"\xaa\x55" + rng.randbytes(5) + bytes([function, len(data)]) + data
-    return front + (sum(front) % 65536).to_bytes(2, "little"), function
+    return front + (sum(front) % 65536).to_bytes(2, "big"), function
 
 
 def fronius(rng, data):

@@ -229,7 +229,7 @@ static void eversolar_close(struct eversolar *r, struct listing *l)
     u32 sum = 0xaa + 0x55;
     for (size i = 0; i < n; i++)
         sum += s[i];
-    if ((sum & 0xffff) != (u32)(s[n] | s[n + 1] << 8))
+    if ((sum & 0xffff) != (u32)(s[n] << 8 | s[n + 1]))
         damage(l, '2', WRONG_SUM);
     else
         message(l, '2', s, 2, s + 2, s + 4, 2, s + ES_HEADER, n - ES_HEADER);

@@ -157,7 +157,7 @@ static int eversolar_judge(const struct eversolar *r, u8 last, u8 *lent, struct 
     u32 sum = 0xaa + 0x55;
     for (size i = 0; i < ES_HEADER + n; i++)
         sum += s[i];
-    if ((sum & 0xffff) != (u32)(s[ES_HEADER + n] | last << 8))
+    if ((sum & 0xffff) != (u32)(s[ES_HEADER + n] << 8 | last))
         return WRONG_SUM;
     h->source[0] = s[0];
     h->source[1] = s[1];

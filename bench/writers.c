@@ -93,8 +93,8 @@ static struct written eversolar_write(const u8 source[2], const u8 destination[2
     u32 sum = 0;
     for (size i = 0; i < ES_FRONT + n; i++)
         sum += to[i];
-    to[ES_FRONT + n] = (u8)sum;
-    to[ES_FRONT + n + 1] = (u8)(sum >> 8);
+    to[ES_FRONT + n] = (u8)(sum >> 8);
+    to[ES_FRONT + n + 1] = (u8)sum;
     return done(frame);
 }
 
