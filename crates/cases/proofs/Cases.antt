@@ -6,6 +6,8 @@ use Rattle.comlynx.specs.Wire as ComLynxWire
 use Rattle.comlynx.specs.Rules as ComLynxRules
 use Rattle.eversolar_words.specs.Words as EversolarWords
 use Rattle.eversolar.specs.Wire as EversolarWire
+use Rattle.eversolar.specs.Rules as EversolarRules
+use Rattle.eversolar_values.specs.Energy as EversolarEnergy
 use Rattle.eversolar_values.specs.Waits as EversolarWaits
 use Rattle.fronius.specs.Wire as FroniusWire
 use Rattle.fronius.specs.Rules as FroniusRules
@@ -14,5 +16,5 @@ use Rattle.fronius_values.specs.Reading as Reading
 use Rattle.cases.specs.Cases.{AllHold}
 
 pub all-hold : AllHold
-unfolding folded bitStep bitSteps entry fcsNext fcsFrom fcsOf sentAfter sent same agrees ComLynxWire.body ComLynxRules.judged ComLynxRules.judge ComLynxRules.within ComLynxRules.before EversolarWords.wordBytes EversolarWire.checksum EversolarWaits.waitAt EversolarWaits.waitOf FroniusWire.checksum FroniusWire.judged FroniusRules.frame FroniusRules.sized FroniusRules.sought Measured.thousandthsOf Reading.readingOf Reading.kindOf
-all-hold = ((refl, (refl, (refl, (refl, (refl, (refl, (refl, (refl, (refl, (refl, (refl, (refl, (refl, (refl, (refl, (refl, (refl, (refl, (refl, (refl, (refl, (refl, (refl, (refl, tt)))))))))))))))))))))))), refl, refl)
+unfolding folded bitStep bitSteps entry fcsNext fcsFrom fcsOf sentAfter sent same agrees ComLynxWire.body ComLynxRules.judged ComLynxRules.judge ComLynxRules.within ComLynxRules.before EversolarWords.word EversolarWords.wordBytes EversolarWire.checksum EversolarWire.judged EversolarRules.frame EversolarRules.sought EversolarEnergy.item EversolarEnergy.energyOf EversolarWaits.waitAt EversolarWaits.waitOf FroniusWire.checksum FroniusWire.judged FroniusRules.frame FroniusRules.sized FroniusRules.sought Measured.thousandthsOf Reading.readingOf Reading.kindOf
+all-hold = ((refl, (refl, (refl, (refl, (refl, (refl, (refl, (refl, (refl, (refl, (refl, (refl, (refl, (refl, (refl, (refl, (refl, (refl, (refl, (refl, (refl, (refl, (refl, (refl, (refl, (refl, (refl, tt))))))))))))))))))))))))))), refl, refl)

@@ -1,20 +1,22 @@
--- Numbers on both sides of a limit: P1 to P12, with document 01's literals on the right.
+-- Numbers on both sides of a limit: P1 to P12, with document 01's literals on the right; P3 is as document 02, Req 03, corrects it.
 use Prim.Native.Nat.{ℕ}
 use mathlib.Core.Path.{_≡_}
 use mathlib.Core.Bool.{true, false}
 use mathlib.Core.Option.{Option, none, some}
-use mathlib.Core.List.{List, [], _∷_}
+use mathlib.Core.List.{List, [], _∷_, _++_}
 use lib.ListN.{length, replicate}
 use lib.IntN.{pos, negℤ}
 use lib.Ieee.{binary64, ofInt}
 use Rattle.answers.specs.Answer.{answer}
-use Rattle.stream.specs.Event.{Event, message}
+use Rattle.stream.specs.Event.{Event, message, damage}
 use Rattle.stream.specs.Rule.{Placed}
 use Rattle.fcs.specs.Fcs.{fcsOf, sent}
 use Rattle.comlynx.specs.Wire as ComLynxWire
 use Rattle.comlynx.specs.Rules as ComLynxRules
 use Rattle.eversolar.specs.Wire as EversolarWire
+use Rattle.eversolar.specs.Rules as EversolarRules
 use Rattle.eversolar_requests.specs.Requests as EversolarRequests
+use Rattle.eversolar_values.specs.Energy as EversolarEnergy
 use Rattle.eversolar_values.specs.Waits as EversolarWaits
 use Rattle.eversolar_requests.specs.declared.ToAll.the-variants.{OffLine}
 use Rattle.fronius.specs.Wire as FroniusWire
@@ -53,8 +55,12 @@ cases =
     ∷ case 2 (ComLynxWire.stuffed (0x7E ∷ 0x7D ∷ [])) (0x7D ∷ 0x5E ∷ 0x7D ∷ 0x5D ∷ [])
     -- its limit: 255 data bytes that are all 7E, written and read back
     ∷ case 2 (ComLynxRules.rule false (ComLynxWire.wire allFlags)) (reads allFlags (length (ComLynxWire.wire allFlags)))
-    -- P3: off-line query
+    -- P3: off-line query, written and read; with its sum low byte first it is a damage
     ∷ case 3 (EversolarWire.wire (EversolarRequests.askAll OffLine)) (0xAA ∷ 0x55 ∷ 0x01 ∷ 0x00 ∷ 0x00 ∷ 0x00 ∷ 0x10 ∷ 0x00 ∷ 0x00 ∷ 0x01 ∷ 0x10 ∷ [])
+    ∷ case 3 (EversolarRules.rule tt (0xAA ∷ 0x55 ∷ 0x01 ∷ 0x00 ∷ 0x00 ∷ 0x00 ∷ 0x10 ∷ 0x00 ∷ 0x00 ∷ 0x01 ∷ 0x10 ∷ [])) (reads (EversolarRequests.askAll OffLine) 11)
+    ∷ case 3 (EversolarRules.rule tt (0xAA ∷ 0x55 ∷ 0x01 ∷ 0x00 ∷ 0x00 ∷ 0x00 ∷ 0x10 ∷ 0x00 ∷ 0x00 ∷ 0x10 ∷ 0x01 ∷ [])) (some (record { event = damage 6; place = 11 }))
+    -- data words are the same way round: 00 01 and 30 3B as items 20 and 21 are 77,883 tenths of a kWh
+    ∷ case 3 (EversolarEnergy.energyOf 0x11 0x90 (replicate 40 0x00 ++ (0x00 ∷ 0x01 ∷ 0x30 ∷ 0x3B ∷ []))) (answer 0 (77_883 ∷ []))
     -- P4: get version, written and read
     ∷ case 4 (FroniusWire.wire getVersion) (0x80 ∷ 0x80 ∷ 0x80 ∷ 0x00 ∷ 0x00 ∷ 0x00 ∷ 0x01 ∷ 0x01 ∷ [])
     ∷ case 4 (FroniusRules.rule tt (0x80 ∷ 0x80 ∷ 0x80 ∷ 0x00 ∷ 0x00 ∷ 0x00 ∷ 0x01 ∷ 0x01 ∷ [])) (reads getVersion 8)
