@@ -3,6 +3,7 @@
 use Prim.Native.Nat.{ℕ, _+_, _*_, _-_, _≤_, _<_}
 use mathlib.Core.Path.{_≡_, refl, sym, ap, _∙_, subst}
 use mathlib.Core.Bool.{Bool, true, false, cond, _&&_, not}
+use mathlib.Core.Logic.{_⊎_, inl, inr}
 use mathlib.Core.Option.{none, some}
 use mathlib.Core.List.{List, [], _∷_, _++_, map, append-nil, append-assoc}
 use lib.ListN.{length, take, drop, length-append, length-drop, drop-of-length-le}
@@ -21,26 +22,21 @@ use Rattle.answers.specs.declared.Refusal.{Refusal}
 use Rattle.answers.specs.declared.Refusal.the-variants.{NoRoom, BytesMissing, Spoilt, TooManyPackets}
 use Rattle.answers.specs.declared.Written.{Written}
 use Rattle.answers.proofs.Numbers.{refusal-above}
-use Rattle.stream.specs.Event.{Event}
-use Rattle.stream.specs.Pieces.{Moved, calls}
-use Rattle.comlynx.specs.Machine as Comlynx
-use Rattle.comlynx.specs.Reader as ComlynxReader
-use Rattle.eversolar.specs.Machine as Eversolar
-use Rattle.eversolar.specs.Reader as EversolarReader
-use Rattle.fronius.specs.Machine as Fronius
-use Rattle.fronius.specs.Reader as FroniusReader
+use Rattle.stream.specs.Pieces.{calls}
 use Rattle.uplink.specs.Packet.{headLength, lineMax, countIn, packetAt, IsRead}
 use Rattle.uplink.specs.Demands.{Within}
 use Rattle.uplink.specs.declared.Received.the-variants as Received
 use Rattle.uplink.proofs.Laws.{both}
 use Rattle.uplink.proofs.Accepted.{tested}
-use Rattle.ports.specs.Ports.{lineOf}
+use Rattle.ports.specs.Ports.{Line, seatOf, lineOf}
 use Rattle.ports.specs.declared.Ports.{Ports}
-use Rattle.lines.specs.Lines.{Shown, stopLine, endLine}
+use Rattle.ports.proofs.Rows.{rowOf}
+use Rattle.ports.proofs.Table.{same-line}
+use Rattle.lines.specs.Lines.{stopLine, endLine}
 use Rattle.lines.proofs.Laws.{line-written}
-use Rattle.listing.specs.Entries.{showComlynx, showEversolar, showFronius, showEvent, lastLines}
+use Rattle.listing.specs.Entries.{showEvent, lastLines}
 use Rattle.listing.specs.Steps.{Packet, packetIn, packetsMax}
-use Rattle.listing.specs.Steps.{Fed, fed, readable, Made, refused, wantsMore, ends, takes, front, going, inRange, roomLeast, made, Sound}
+use Rattle.listing.specs.Steps.{Fed, fed, readableOn, readable, Made, refused, wantsMore, ends, takes, front, going, inRange, roomLeast, made, Sound}
 use Rattle.listing.specs.Inside.{Put, lengthIn, Drains}
 use Rattle.listing.specs.Making.{few, stopText, stopOf, listed, HandsBack, CanTake, packet, took, taking, noPacket, atEnd}
 use Rattle.listing.specs.declared.Listing.{Listing}
@@ -105,67 +101,51 @@ same-made l lent later r {m} {n} e x = subst (λ (k : Made). HandsBack l k lent 
 pub nothing : (l : Listing) (m : Made) (lent : List ℕ) (r : Listed) → m .listing ≡ l → m .text ≡ [] → r ≡ listed m → HandsBack l m lent r lent
 nothing l m lent r a b e = (e, rw b, λ s. subst Sound (sym (ap (λ (x : Listed). x .listing) e ∙ a)) s)
 
--- ---- the reader of a port among the ports
+-- ---- the reader of a line among the ports
 
-pub record OnPort {S M : Type 0} (next : S → ℕ → Moved S (Event M)) (within : S → Bool) (show : M → Shown) (port : ℕ) (get : Ports → S) (put : Ports → S → Ports) : Type 0 where
-  pub reads : (ps : Ports) → readable port ps ≡ within (get ps)
-  pub feeds : (ps : Ports) (line : List ℕ)
-      → fed (packet port line) ps
-      ≡ record { ports = put ps (calls next (length line) (get ps) line .state); events = map (showEvent show) (calls next (length line) (get ps) line .events) }
-  pub keeps : (ps : Ports) (s : S) → within s ≡ true
-      → (readable 1 ps ≡ true → readable 1 (put ps s) ≡ true) × (readable 2 ps ≡ true → readable 2 (put ps s) ≡ true) × (readable 3 ps ≡ true → readable 3 (put ps s) ≡ true)
+-- one in range put there, and all that were in range are
+still-readable : (at other : Line) (ps : Ports) (s : seatOf at .family .State) → seatOf at .inRange s ≡ true
+    → readableOn (some other) ps ≡ true → readableOn (some other) (seatOf at .put ps s) ≡ true
+still-readable at other ps s h x = go (same-line at other)
+  where
+    go : (at ≡ other) ⊎ (at ≡ other → ⊥) → readableOn (some other) (seatOf at .put ps s) ≡ true
+    go (inl e) = subst (λ (l : Line). readableOn (some l) (seatOf at .put ps s) ≡ true) e (ap (seatOf at .inRange) (rowOf at .got ps s) ∙ h)
+    go (inr n) = ap (seatOf other .inRange) (rowOf at .others other ps s n) ∙ x
 
-pub on-first : OnPort Comlynx.next ComlynxReader.inRange showComlynx 1
-    (λ ps. ps .comlynx) (λ ps s. record { comlynx = s; eversolar = ps .eversolar; fronius = ps .fronius })
-unfolding lineOf
-on-first = record { reads = λ ps. refl; feeds = λ ps line. refl; keeps = λ ps s h. (λ x. h, λ x. x, λ x. x) }
+module _ (at : Line) (l : Listing) (line lent later : List ℕ) (reader : seatOf at .family .State) (spoilt : Bool) (wrote messages damages : ℕ) (r : Listed)
+    (d : Drains (seatOf at .next) (seatOf at .inRange) (seatOf at .show) (seatOf at .get (l .ports)) (seatOf at .port) line lent reader spoilt wrote messages damages later) where
+  abbrev p : Packet
+  p = packet (seatOf at .port) line
 
-pub on-second : OnPort Eversolar.next EversolarReader.inRange showEversolar 2
-    (λ ps. ps .eversolar) (λ ps s. record { comlynx = ps .comlynx; eversolar = s; fronius = ps .fronius })
-unfolding lineOf
-on-second = record { reads = λ ps. refl; feeds = λ ps line. refl; keeps = λ ps s h. (λ x. x, λ x. h, λ x. x) }
-
-pub on-third : OnPort Fronius.next FroniusReader.inRange showFronius 3
-    (λ ps. ps .fronius) (λ ps s. record { comlynx = ps .comlynx; eversolar = ps .eversolar; fronius = s })
-unfolding lineOf
-on-third = record { reads = λ ps. refl; feeds = λ ps line. refl; keeps = λ ps s h. (λ x. x, λ x. x, λ x. h) }
-
-module _ {S M : Type 0} {next : S → ℕ → Moved S (Event M)} {within : S → Bool} {show : M → Shown} {port : ℕ} {get : Ports → S} {put : Ports → S → Ports}
-    (f : OnPort next within show port get put)
-    (l : Listing) (line lent later : List ℕ) (reader : S) (spoilt : Bool) (wrote messages damages : ℕ) (r : Listed)
-    (d : Drains next within show (get (l .ports)) port line lent reader spoilt wrote messages damages later) where
   -- out of its range
-  pub drain-refused : spoilt ≡ true → r ≡ listed (refused Spoilt l) → HandsBack l (taking l (packet port line)) lent r later
+  pub drain-refused : spoilt ≡ true → r ≡ listed (refused Spoilt l) → HandsBack l (taking l p) lent r later
   unfolding taking
   drain-refused t e =
-      let out : within (get (l .ports)) ≡ false = not-true _ (sym (d .range) ∙ t) in
-      let is : refused Spoilt l ≡ taking l (packet port line) = rw (f .reads (l .ports), out) in
+      let out : seatOf at .inRange (seatOf at .get (l .ports)) ≡ false = not-true _ (sym (d .range) ∙ t) in
+      let is : refused Spoilt l ≡ taking l p = rw (rowOf at .own-line, out) in
       let kept : later ≡ lent = d .refuses out .1 in
       rw kept (same-made l lent lent r is (nothing l (refused Spoilt l) lent r refl refl e))
 
   -- in its range
   pub drain-taken : spoilt ≡ false → CanTake l (length line) (length lent)
-      → r ≡ took (put (l .ports) reader) (l .packets + 1) (l .messages + messages) (l .damages + damages) (headLength + length line) wrote
-      → HandsBack l (taking l (packet port line)) lent r later
+      → r ≡ took (seatOf at .put (l .ports) reader) (l .packets + 1) (l .messages + messages) (l .damages + damages) (headLength + length line) wrote
+      → HandsBack l (taking l p) lent r later
   unfolding taking
   drain-taken t can e =
-      let inside : within (get (l .ports)) ≡ true = not-false _ (sym (d .range) ∙ t) in
-      let ran = calls next (length line) (get (l .ports)) line in
-      let fed-on : Fed = record { ports = put (l .ports) (ran .state); events = map (showEvent show) (ran .events) } in
-      let is : takes l (packet port line) fed-on ≡ taking l (packet port line) = rw (f .reads (l .ports), inside, f .feeds (l .ports) line) in
+      let inside : seatOf at .inRange (seatOf at .get (l .ports)) ≡ true = not-false _ (sym (d .range) ∙ t) in
+      let ran = calls (seatOf at .next) (length line) (seatOf at .get (l .ports)) line in
+      let fed-on : Fed = record { ports = seatOf at .put (l .ports) (ran .state); events = map (showEvent (seatOf at .show)) (ran .events) } in
+      let is : takes l p fed-on ≡ taking l p = rw (rowOf at .own-line, inside) in
       let x = d .reads inside in
-      let told-so : r ≡ listed (takes l (packet port line) fed-on) = e ∙ rw (x .0, x .1 .0, x .2, x .3) in
+      let told-so : r ≡ listed (takes l p fed-on) = e ∙ rw (x .0, x .1 .0, x .2, x .3) in
       let before = counts-few (l .packets) (l .messages) (l .damages) (in-few l ∙ can .counts) in
-      let after : Listing = record { ports = put (l .ports) reader; packets = l .packets + 1; messages = l .messages + messages; damages = l .damages + damages } in
-      let keeps = f .keeps (l .ports) reader (x .4) in
+      let after : Listing = record { ports = seatOf at .put (l .ports) reader; packets = l .packets + 1; messages = l .messages + messages; damages = l .damages + damages } in
       let counts : few (l .packets + 1) (l .messages + messages) (l .damages + damages) ≡ true =
       few-counts (l .packets + 1) (l .messages + messages) (l .damages + damages) (omega (arith, can .packets))
       (omega (arith, before .1, d .few .0)) (omega (arith, before .2, d .few .1)) in
       let sound : Sound l → Sound after = λ s. record {
         counts = sym (in-few after) ∙ counts;
-        first = keeps .0 (s .first);
-        second = keeps .1 (s .second);
-        third = keeps .2 (s .third);
+        readers = λ other. still-readable at other (l .ports) reader (x .4) (s .readers other);
       } in
       same-made l lent later r is (told-so, x .1 .1, λ s. subst Sound (sym (ap (λ (y : Listed). y .listing) e)) (sound s))
 

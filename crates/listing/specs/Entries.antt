@@ -1,33 +1,10 @@
 -- What a listing shows: a message as four lists of bytes, a damage by its number, each on its port; their lines and their counts.
-use Prim.Native.Nat.{ℕ, _+_, _/_, _%_}
+use Prim.Native.Nat.{ℕ, _+_}
 use mathlib.Core.Option.{Option, none, some}
 use mathlib.Core.List.{List, [], _∷_, _++_, map}
 use Rattle.stream.specs.Event.{Event, message, damage}
-use Rattle.comlynx.specs.Wire as Comlynx
-use Rattle.eversolar.specs.Wire as Eversolar
-use Rattle.fronius.specs.Wire as Fronius
+pub use Rattle.ports.specs.Shown.{word, showComlynx, showEversolar, showFronius}
 use Rattle.lines.specs.Lines.{Shown, messageLine, damageLine, stopLine, endLine}
-
--- ---- a message as it is shown: from, to, code and data
-
-abbrev pub word : ℕ → List ℕ
-word w = w / 256 ∷ w % 256 ∷ []
-
-abbrev pub showComlynx : Comlynx.Message → Shown
-showComlynx m = record { from = word (m .source); to = word (m .destination); code = m .kind ∷ []; bytes = m .bytes }
-
--- Eversolar's code is control and function
-abbrev pub showEversolar : Eversolar.Message → Shown
-showEversolar m = record {
-  from = m .sourceFirst ∷ m .sourceSecond ∷ [];
-  to = m .destinationFirst ∷ m .destinationSecond ∷ [];
-  code = m .control ∷ m .function ∷ [];
-  bytes = m .bytes;
-}
-
--- Fronius has `-` for from, and device with number for to
-abbrev pub showFronius : Fronius.Message → Shown
-showFronius m = record { from = []; to = m .device ∷ m .number ∷ []; code = m .command ∷ []; bytes = m .bytes }
 
 abbrev pub showEvent : {M : Type 0} → (M → Shown) → Event M → Event Shown
 showEvent show (message m) = message (show m)

@@ -12,31 +12,23 @@ use Rattle.answers.specs.declared.Refusal.{Refusal}
 use Rattle.answers.specs.declared.Refusal.the-variants.{NoRoom, BytesMissing, Spoilt, TooManyPackets}
 use Rattle.stream.specs.Event.{Event}
 use Rattle.stream.specs.Pieces.{calls}
-use Rattle.comlynx.specs.Machine as Comlynx
-use Rattle.comlynx.specs.Reader as ComlynxReader
-use Rattle.eversolar.specs.Machine as Eversolar
-use Rattle.eversolar.specs.Reader as EversolarReader
-use Rattle.fronius.specs.Machine as Fronius
-use Rattle.fronius.specs.Reader as FroniusReader
 use Rattle.uplink.specs.Packet.{headLength, lineMax, portIn, countIn, packetAt}
-use Rattle.ports.specs.Ports.{Line, comlynxLine, eversolarLine, froniusLine, noLine, lineOf}
+use Rattle.ports.specs.Ports as Table
+use Rattle.ports.specs.Ports.{Line, seatOf, lineOf}
 use Rattle.ports.specs.declared.Ports.{Ports}
 use Rattle.lines.specs.Lines.{Shown, stopLine, endLine}
-use Rattle.listing.specs.Entries.{showComlynx, showEversolar, showFronius, showEvent, entriesOn, linesOf, messagesIn, damagesIn, lastLines}
+use Rattle.listing.specs.Entries.{showEvent, entriesOn, linesOf, messagesIn, damagesIn, lastLines}
 use Rattle.listing.specs.declared.Listing.{Listing}
 use Rattle.listing.specs.declared.Listed.{Listed}
 use Rattle.listing.specs.declared.Heard.{Heard}
 use Rattle.listing.specs.declared.Heard.the-variants.{More, Packet as Took, End, Refused}
 
 -- what `Listing::fresh` promises: fresh readers, and nothing counted
-abbrev pub freshPorts : Ports
-freshPorts = record { comlynx = Comlynx.fresh; eversolar = Eversolar.fresh; fronius = Fronius.fresh }
-
-abbrev pub freshListing : Listing
-freshListing = record { ports = freshPorts; packets = 0; messages = 0; damages = 0 }
-
-abbrev pub IsFresh : Listing → Type 0
-IsFresh l = l ≡ freshListing
+pub record IsFresh (l : Listing) : Type 0 where
+  pub readers : Table.IsFresh (l .ports)
+  pub packets : l .packets ≡ 0
+  pub messages : l .messages ≡ 0
+  pub damages : l .damages ≡ 0
 
 -- ---- a packet
 
@@ -58,36 +50,19 @@ pub record Fed : Type 0 where
   pub ports : Ports
   pub events : List (Event Shown)
 
-abbrev pub fedComlynx : Ports → List ℕ → Fed
-fedComlynx ps line =
-    let r = calls Comlynx.next (length line) (ps .comlynx) line in
-    record { ports = record { comlynx = r .state; eversolar = ps .eversolar; fronius = ps .fronius }; events = map (showEvent showComlynx) (r .events) }
-
-abbrev pub fedEversolar : Ports → List ℕ → Fed
-fedEversolar ps line =
-    let r = calls Eversolar.next (length line) (ps .eversolar) line in
-    record { ports = record { comlynx = ps .comlynx; eversolar = r .state; fronius = ps .fronius }; events = map (showEvent showEversolar) (r .events) }
-
-abbrev pub fedFronius : Ports → List ℕ → Fed
-fedFronius ps line =
-    let r = calls Fronius.next (length line) (ps .fronius) line in
-    record { ports = record { comlynx = ps .comlynx; eversolar = ps .eversolar; fronius = r .state }; events = map (showEvent showFronius) (r .events) }
-
-abbrev pub fedOn : Line → Ports → List ℕ → Fed
-fedOn comlynxLine = fedComlynx
-fedOn eversolarLine = fedEversolar
-fedOn froniusLine = fedFronius
-fedOn noLine = λ ps line. record { ports = ps; events = [] }
+abbrev pub fedOn : Option Line → Ports → List ℕ → Fed
+fedOn none ps line = record { ports = ps; events = [] }
+fedOn (some at) ps line =
+    let r = calls (seatOf at .next) (length line) (seatOf at .get ps) line in
+    record { ports = seatOf at .put ps (r .state); events = map (showEvent (seatOf at .show)) (r .events) }
 
 abbrev pub fed : Packet → Ports → Fed
 fed p ps = fedOn (lineOf (p .port)) ps (p .line)
 
 -- the reader of the port is in its range
-abbrev pub readableOn : Line → Ports → Bool
-readableOn comlynxLine ps = ComlynxReader.inRange (ps .comlynx)
-readableOn eversolarLine ps = EversolarReader.inRange (ps .eversolar)
-readableOn froniusLine ps = FroniusReader.inRange (ps .fronius)
-readableOn noLine ps = false
+abbrev pub readableOn : Option Line → Ports → Bool
+readableOn none ps = false
+readableOn (some at) ps = seatOf at .inRange (seatOf at .get ps)
 
 abbrev pub readable : (port : ℕ) → Ports → Bool
 readable port ps = readableOn (lineOf port) ps
@@ -148,9 +123,7 @@ made l input ended room = cond (inRange l) (cond (ltb room roomLeast) (refused N
 -- a listing that is never refused with 18
 pub record Sound (l : Listing) : Type 0 where
   pub counts : inRange l ≡ true
-  pub first : readable 1 (l .ports) ≡ true
-  pub second : readable 2 (l .ports) ≡ true
-  pub third : readable 3 (l .ports) ≡ true
+  pub readers : (at : Line) → readableOn (some at) (l .ports) ≡ true
 
 -- WHAT `Listing::step` PROMISES, of listing, input, whether the input has ended, the lent buffer, the result and the buffer afterwards;
 -- and a sound listing stays sound

@@ -52,7 +52,7 @@ pub(crate) fn drain_comlynx(
     line: &[u8],
     out: &mut [u8],
 ) -> ComlynxDrained
-    requires { ⌜ (1 ≤ port) × (port ≤ 3) × (0 < length (now line)) × (length (now line) ≤ lineMax) × (roomLeast ≤ length (now out)) ⌝ }
+    requires { ⌜ (1 ≤ port) × (port < 10) × (0 < length (now line)) × (length (now line) ≤ lineMax) × (roomLeast ≤ length (now out)) ⌝ }
     ensures { λ r. ⌜ Drains ComlynxMachine.next Comlynx.inRange showComlynx reader port (now (line .entry)) (now (out .entry)) (r .reader) (r .spoilt) (r .wrote) (r .messages) (r .damages) (now (out .exit)) ⌝ }
 {
     let mut lent = [0u8; LENT];
@@ -103,7 +103,7 @@ pub(crate) fn drain_eversolar(
     line: &[u8],
     out: &mut [u8],
 ) -> EversolarDrained
-    requires { ⌜ (1 ≤ port) × (port ≤ 3) × (0 < length (now line)) × (length (now line) ≤ lineMax) × (roomLeast ≤ length (now out)) ⌝ }
+    requires { ⌜ (1 ≤ port) × (port < 10) × (0 < length (now line)) × (length (now line) ≤ lineMax) × (roomLeast ≤ length (now out)) ⌝ }
     ensures { λ r. ⌜ Drains EversolarMachine.next Eversolar.inRange showEversolar reader port (now (line .entry)) (now (out .entry)) (r .reader) (r .spoilt) (r .wrote) (r .messages) (r .damages) (now (out .exit)) ⌝ }
 {
     let mut lent = [0u8; LENT];
@@ -154,7 +154,7 @@ pub(crate) fn drain_fronius(
     line: &[u8],
     out: &mut [u8],
 ) -> FroniusDrained
-    requires { ⌜ (1 ≤ port) × (port ≤ 3) × (0 < length (now line)) × (length (now line) ≤ lineMax) × (roomLeast ≤ length (now out)) ⌝ }
+    requires { ⌜ (1 ≤ port) × (port < 10) × (0 < length (now line)) × (length (now line) ≤ lineMax) × (roomLeast ≤ length (now out)) ⌝ }
     ensures { λ r. ⌜ Drains FroniusMachine.next Fronius.inRange showFronius reader port (now (line .entry)) (now (out .entry)) (r .reader) (r .spoilt) (r .wrote) (r .messages) (r .damages) (now (out .exit)) ⌝ }
 {
     let mut lent = [0u8; LENT];

@@ -1,4 +1,4 @@
-pub mod Laws
-pub mod Standing
+pub mod Rows
+pub mod Table
 pub mod Demands
 pub mod One

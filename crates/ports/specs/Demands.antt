@@ -3,24 +3,21 @@
 use Prim.Native.Nat.{ℕ, _≤_}
 use mathlib.Core.Path.{_≡_}
 use mathlib.Core.Logic.{_↔_}
+use mathlib.Core.Option.{some}
 use mathlib.Core.List.{List, [], _∷_}
 use lib.ListN.{length}
 use Rattle.stream.specs.Call.{lentLeast}
-use Rattle.stream.specs.Family.{Family, Call, Allowed}
-use Rattle.ports.specs.Ports.{lineOf, number, Stands, onComlynx, onEversolar, onFronius, IsStep}
+use Rattle.stream.specs.Family.{Call, Allowed}
+use Rattle.ports.specs.Ports.{Line, portMost, seatOf, lineOf, number, stepped, IsStep}
 use Rattle.ports.specs.declared.Ports.{Ports}
 use Rattle.ports.specs.declared.Step.{Step}
 
 -- ---- a call on one port leaves the readers of the others as they were
 
--- a family's reader, where the call is on another line than its own
-abbrev pub ApartFrom : {F : Family} → Stands F → Type 0
-ApartFrom stands =
-    (ports : Ports) (port : ℕ) (piece lent later : List ℕ) (r : Step) → IsStep ports port piece lent r later
-    → (lineOf port ≡ stands .line → ⊥) → stands .reader (r .ports) ≡ stands .reader ports
-
 abbrev pub Apart : Type 0
-Apart = ApartFrom onComlynx × ApartFrom onEversolar × ApartFrom onFronius
+Apart =
+    (line : Line) (ports : Ports) (port : ℕ) (piece lent later : List ℕ) (r : Step) → IsStep ports port piece lent r later
+    → (lineOf port ≡ some line → ⊥) → seatOf line .get (r .ports) ≡ seatOf line .get ports
 
 -- ---- on each port the family's reader reads as it does alone, so that the demands of the family hold there, however the ports interleave
 
@@ -38,29 +35,26 @@ AllowedOn ports (c ∷ cs) =
     × IsStep ports (c .port) (c .call .piece) (c .call .lent) (c .call .result) (c .call .later)
     × AllowedOn (c .call .result .ports) cs
 
--- a call on the ports, and a call of a family's reader: the same piece and buffers, and the result of the one is that of the other, put in its place
-pub record SameCall {F : Family} (stands : Stands F) (c : Call Step) (own : Call (F .Result)) : Type 0 where
+-- a call on the ports, and a call of a line's reader: the same piece and buffers, and the result of the one is that of the other, put in its place
+pub record SameCall (line : Line) (c : Call Step) (own : Call (seatOf line .family .Result)) : Type 0 where
   pub piece : c .piece ≡ own .piece
   pub lent : c .lent ≡ own .lent
-  pub result : c .result ≡ stands .result (c .result .ports) (own .result)
+  pub result : c .result ≡ stepped line (c .result .ports) (own .result)
   pub later : c .later ≡ own .later
 
--- of calls on any ports those on a family's line, in order, as calls of its reader
-pub data OwnCalls {F : Family} (stands : Stands F) : List PortCall → List (Call (F .Result)) → Type 0 where
-  ends : OwnCalls stands [] []
-  another : {c : PortCall} {cs : List PortCall} {owns : List (Call (F .Result))}
-      → (lineOf (c .port) ≡ stands .line → ⊥) → OwnCalls stands cs owns → OwnCalls stands (c ∷ cs) owns
-  its : {c : PortCall} {cs : List PortCall} {own : Call (F .Result)} {owns : List (Call (F .Result))}
-      → lineOf (c .port) ≡ stands .line → SameCall stands (c .call) own → OwnCalls stands cs owns → OwnCalls stands (c ∷ cs) (own ∷ owns)
+-- of calls on any ports those on a line, in order, as calls of its reader
+pub data OwnCalls (line : Line) : List PortCall → List (Call (seatOf line .family .Result)) → Type 0 where
+  ends : OwnCalls line [] []
+  another : {c : PortCall} {cs : List PortCall} {owns : List (Call (seatOf line .family .Result))}
+      → (lineOf (c .port) ≡ some line → ⊥) → OwnCalls line cs owns → OwnCalls line (c ∷ cs) owns
+  its : {c : PortCall} {cs : List PortCall} {own : Call (seatOf line .family .Result)} {owns : List (Call (seatOf line .family .Result))}
+      → lineOf (c .port) ≡ some line → SameCall line (c .call) own → OwnCalls line cs owns → OwnCalls line (c ∷ cs) (own ∷ owns)
 
 -- they are calls that the family's own promise allows, from the reader that stands there
-abbrev pub Alone : {F : Family} → Stands F → Type 0
-Alone {F} stands =
-    (ports : Ports) (cs : List PortCall) → AllowedOn ports cs
-    → (owns : List (Call (F .Result))) × OwnCalls stands cs owns × Allowed F (stands .reader ports) owns
-
 abbrev pub EachAlone : Type 0
-EachAlone = Alone onComlynx × Alone onEversolar × Alone onFronius
+EachAlone =
+    (line : Line) (ports : Ports) (cs : List PortCall) → AllowedOn ports cs
+    → (owns : List (Call (seatOf line .family .Result))) × OwnCalls line cs owns × Allowed (seatOf line .family) (seatOf line .get ports) owns
 
 -- ---- refusals
 
@@ -74,4 +68,4 @@ Kept =
 abbrev pub WrongPort : Type 0
 WrongPort =
     (ports : Ports) (port : ℕ) (piece lent later : List ℕ) (r : Step) → IsStep ports port piece lent r later
-    → (number (r .answer) ≡ 12) ↔ ((1 ≤ port) × (port ≤ 3) → ⊥)
+    → (number (r .answer) ≡ 12) ↔ ((1 ≤ port) × (port ≤ portMost) → ⊥)

@@ -1,38 +1,38 @@
--- The readers of all ports side by side: which port has which family, and what a call on a port promises. Of the readers themselves
+-- The readers of all ports side by side: THE ONE TABLE OF PORTS, and what a call on a port promises. Of the readers themselves
 -- nothing is said here but by their families' own promises.
-use Prim.Native.Nat.{ℕ}
+use Prim.Native.Nat.{ℕ, _+_}
 use mathlib.Core.Path.{_≡_}
-use mathlib.Core.Bool.{cond}
-use mathlib.Core.List.{List}
+use mathlib.Core.Bool.{Bool, cond}
+use mathlib.Core.Option.{Option, none, some}
+use mathlib.Core.List.{List, [], _∷_}
 use lib.Dec.{eqb}
 use Rattle.answers.specs.Refusal as Refusal
 use Rattle.answers.specs.Damage as Damage
 use Rattle.answers.specs.declared.Refusal.the-variants.{WrongPort}
+use Rattle.stream.specs.Event.{Event}
+use Rattle.stream.specs.Pieces.{Moved}
 use Rattle.stream.specs.Family.{Family}
+use Rattle.comlynx.specs.Machine as ComlynxMachine
+use Rattle.comlynx.specs.Reader as ComlynxReader
 use Rattle.comlynx.specs.Demands.{comlynx}
 use Rattle.comlynx.specs.declared.reader.Answer as ComlynxAnswer
 use Rattle.comlynx.specs.declared.reader.Answer.the-variants as OfComlynx
+use Rattle.eversolar.specs.Machine as EversolarMachine
+use Rattle.eversolar.specs.Reader as EversolarReader
 use Rattle.eversolar.specs.Demands.{eversolar}
 use Rattle.eversolar.specs.declared.reader.Answer as EversolarAnswer
 use Rattle.eversolar.specs.declared.reader.Answer.the-variants as OfEversolar
+use Rattle.fronius.specs.Machine as FroniusMachine
+use Rattle.fronius.specs.Reader as FroniusReader
 use Rattle.fronius.specs.Demands.{fronius}
 use Rattle.fronius.specs.declared.reader.Answer as FroniusAnswer
 use Rattle.fronius.specs.declared.reader.Answer.the-variants as OfFronius
+use Rattle.lines.specs.Lines.{Shown}
+use Rattle.ports.specs.Shown.{showComlynx, showEversolar, showFronius}
 use Rattle.ports.specs.declared.Ports.{Ports}
 use Rattle.ports.specs.declared.Step.{Step}
 use Rattle.ports.specs.declared.Answer.{Answer}
 use Rattle.ports.specs.declared.Answer.the-variants.{Done, ComLynx, Eversolar, Fronius, Damaged, Refused}
-
--- ---- which port has which family
-
-pub data Line : Type 0 where
-  comlynxLine : Line
-  eversolarLine : Line
-  froniusLine : Line
-  noLine : Line
-
-unfoldable pub lineOf : ℕ → Line
-lineOf port = cond (eqb port 1) comlynxLine (cond (eqb port 2) eversolarLine (cond (eqb port 3) froniusLine noLine))
 
 -- ---- a family's answers as answers of the ports: only a message is told by another name, its family's
 
@@ -63,66 +63,107 @@ number (Fronius h) = 1
 number (Damaged what) = Damage.told what
 number (Refused why) = Refusal.told why
 
--- ---- how a family stands among the ports: its line, its reader, and the result of a call on its line, which is the result of that
--- reader's call with the reader that it handed back put in its place, the others left as they were
+-- ---- THE ONE TABLE OF PORTS: a row a port. Everything above goes by it
 
-pub record Stands (F : Family) : Type 0 where
-  pub line : Line
-  pub reader : Ports → F .State
-  pub result : Ports → F .Result → Step
+pub data Line : Type 0 where
+  comlynxLine : Line
+  eversolarLine : Line
+  froniusLine : Line
 
-abbrev pub onComlynx : Stands comlynx
-onComlynx = record {
-  line = comlynxLine;
-  reader = λ ports. ports .comlynx;
-  result = λ ports s. record {
-    ports = record { comlynx = s .reader; eversolar = ports .eversolar; fronius = ports .fronius };
-    answer = comlynxAnswer (s .answer);
-    used = s .used;
-  };
+-- all of them
+abbrev pub lines : List Line
+lines = comlynxLine ∷ eversolarLine ∷ froniusLine ∷ []
+
+-- the ports are 1 to 3
+abbrev pub portMost : ℕ
+portMost = 3
+
+-- a number for each line, summed
+abbrev pub sumOver : List Line → (Line → ℕ) → ℕ
+sumOver [] n = 0
+sumOver (l ∷ ls) n = n l + sumOver ls n
+
+-- a row: its port, the family that sits there,
+pub record Seat : Type 1 where
+  pub port : ℕ
+  pub family : Family
+  -- the family's machine, its states in range, how its messages are shown,
+  pub next : family .State → ℕ → Moved (family .State) (Event (family .Message))
+  pub inRange : family .State → Bool
+  pub show : family .Message → Shown
+  -- where its reader stands among the ports: the reader there, and the ports with another in its place, the others left as they are,
+  pub get : Ports → family .State
+  pub put : Ports → family .State → Ports
+  -- and what the result of its call holds: the reader handed back, the answer as one of the ports, the bytes used
+  pub reader : family .Result → family .State
+  pub answer : family .Result → Answer
+  pub used : family .Result → ℕ
+
+abbrev pub seatOf : Line → Seat
+seatOf comlynxLine = record {
+  port = 1;
+  family = comlynx;
+  next = ComlynxMachine.next;
+  inRange = ComlynxReader.inRange;
+  show = showComlynx;
+  get = λ ports. ports .comlynx;
+  put = λ ports s. record { comlynx = s; eversolar = ports .eversolar; fronius = ports .fronius };
+  reader = λ r. r .reader;
+  answer = λ r. comlynxAnswer (r .answer);
+  used = λ r. r .used;
+}
+seatOf eversolarLine = record {
+  port = 2;
+  family = eversolar;
+  next = EversolarMachine.next;
+  inRange = EversolarReader.inRange;
+  show = showEversolar;
+  get = λ ports. ports .eversolar;
+  put = λ ports s. record { comlynx = ports .comlynx; eversolar = s; fronius = ports .fronius };
+  reader = λ r. r .reader;
+  answer = λ r. eversolarAnswer (r .answer);
+  used = λ r. r .used;
+}
+seatOf froniusLine = record {
+  port = 3;
+  family = fronius;
+  next = FroniusMachine.next;
+  inRange = FroniusReader.inRange;
+  show = showFronius;
+  get = λ ports. ports .fronius;
+  put = λ ports s. record { comlynx = ports .comlynx; eversolar = ports .eversolar; fronius = s };
+  reader = λ r. r .reader;
+  answer = λ r. froniusAnswer (r .answer);
+  used = λ r. r .used;
 }
 
-abbrev pub onEversolar : Stands eversolar
-onEversolar = record {
-  line = eversolarLine;
-  reader = λ ports. ports .eversolar;
-  result = λ ports s. record {
-    ports = record { comlynx = ports .comlynx; eversolar = s .reader; fronius = ports .fronius };
-    answer = eversolarAnswer (s .answer);
-    used = s .used;
-  };
-}
+-- the line of a port, if it has one
+abbrev pub lineAmong : List Line → ℕ → Option Line
+lineAmong [] port = none
+lineAmong (l ∷ ls) port = cond (eqb port (seatOf l .port)) (some l) (lineAmong ls port)
 
-abbrev pub onFronius : Stands fronius
-onFronius = record {
-  line = froniusLine;
-  reader = λ ports. ports .fronius;
-  result = λ ports s. record {
-    ports = record { comlynx = ports .comlynx; eversolar = ports .eversolar; fronius = s .reader };
-    answer = froniusAnswer (s .answer);
-    used = s .used;
-  };
-}
+unfoldable pub lineOf : ℕ → Option Line
+lineOf port = lineAmong lines port
 
 -- ---- the promises
 
--- what `Ports::fresh` promises
+-- what `Ports::fresh` promises: every reader before its first byte
 abbrev pub IsFresh : Ports → Type 0
-IsFresh r = r ≡ record { comlynx = comlynx .fresh; eversolar = eversolar .fresh; fronius = fronius .fresh }
+IsFresh r = (line : Line) → seatOf line .get r ≡ seatOf line .family .fresh
 
--- a call on a family's line: there is a call of its reader that its own promise allows, and this is the result of that
-abbrev pub StepsAs : {F : Family} → Stands F → Ports → List ℕ → List ℕ → Step → List ℕ → Type 0
-StepsAs {F} stands ports piece lent r later = (s : F .Result) × F .Steps (stands .reader ports) piece lent s later × (r ≡ stands .result ports s)
+-- the result of a call on a line: that of its reader's call, with the reader that it handed back put in its place
+abbrev pub stepped : (line : Line) → Ports → seatOf line .family .Result → Step
+stepped line ports s = record { ports = seatOf line .put ports (seatOf line .reader s); answer = seatOf line .answer s; used = seatOf line .used s }
 
 -- 12, nothing used, all unchanged
 abbrev pub refused : Ports → Step
 refused ports = record { ports = ports; answer = Refused WrongPort; used = 0 }
 
-abbrev pub StepsOn : Line → Ports → List ℕ → List ℕ → Step → List ℕ → Type 0
-StepsOn comlynxLine = StepsAs onComlynx
-StepsOn eversolarLine = StepsAs onEversolar
-StepsOn froniusLine = StepsAs onFronius
-StepsOn noLine = λ ports piece lent r later. (r ≡ refused ports) × (later ≡ lent)
+-- a call on a line: there is a call of its reader that its family's promise allows, and this is the result of that; on no line: refused
+abbrev pub StepsOn : Option Line → Ports → List ℕ → List ℕ → Step → List ℕ → Type 0
+StepsOn none ports piece lent r later = (r ≡ refused ports) × (later ≡ lent)
+StepsOn (some line) ports piece lent r later =
+    (s : seatOf line .family .Result) × seatOf line .family .Steps (seatOf line .get ports) piece lent s later × (r ≡ stepped line ports s)
 
 -- what `Ports::step` promises, of the readers, port, piece, lent buffer, result and the buffer afterwards
 abbrev pub IsStep : Ports → ℕ → List ℕ → List ℕ → Step → List ℕ → Type 0

@@ -15,6 +15,7 @@ use Rattle.answers.specs.declared.Refusal.{Refusal}
 use Rattle.answers.specs.declared.Refusal.the-variants.{WrongMark, WrongVersion, WrongPort, BytesMissing}
 use Rattle.uplink.specs.Packet.{headLength, lineMax, known, versionOf, marked, versionIn, portIn, countIn, counted, carried, packetAt}
 use Rattle.listing.specs.Steps.{Packet, packetIn}
+use Rattle.ports.proofs.Rows.{OnLine, ported}
 use Rattle.uplink.proofs.Laws.{both, carried-count}
 use Rattle.uplink.proofs.Accepted.{port-within}
 
@@ -41,22 +42,26 @@ module _ (s rest : List ℕ) (long : headLength ≤ length s) where
   unfolding carried
   same-carried = rw (same-port, same-version, same-count)
 
+-- THE PACKETS AND THE TABLE: a port that a known version carries has a line
+pub carried-line : (port : ℕ) → known (versionOf port) ≡ true → OnLine port
+carried-line port e = let w = port-within port e in ported port (w .0) (w .1)
+
 -- ---- what the front of an input is: too short to tell, refused whatever follows, or a packet whatever follows
 
 pub data Kind (s : List ℕ) : Type 0 where
   short : number (packetAt s) ≡ told BytesMissing → length s < headLength + lineMax → Kind s
   wrong : (why : Refusal) → eqb (told why) 0 ≡ false → eqb (told why) (told BytesMissing) ≡ false
       → number (packetAt s) ≡ told why → ((rest : List ℕ) → number (packetAt (s ++ rest)) ≡ told why) → Kind s
-  packet : headLength ≤ length s → 1 ≤ portIn s → portIn s ≤ 3 → 1 ≤ countIn s → countIn s ≤ lineMax → headLength + countIn s ≤ length s
+  packet : headLength ≤ length s → OnLine (portIn s) → 1 ≤ countIn s → countIn s ≤ lineMax → headLength + countIn s ≤ length s
       → number (packetAt s) ≡ 0 → ((rest : List ℕ) → number (packetAt (s ++ rest)) ≡ 0) → Kind s
 
 module _ (s : List ℕ) where
   long-on : (rest : List ℕ) → headLength ≤ length s → leb headLength (length (s ++ rest)) ≡ true
   long-on rest h = le-leb headLength (length (s ++ rest)) (simp length-append (omega arith))
 
-  ported : carried s ≡ true → known (versionIn s) ≡ true → (1 ≤ portIn s) × (portIn s ≤ 3)
+  on-line : carried s ≡ true → known (versionIn s) ≡ true → OnLine (portIn s)
   unfolding carried
-  ported e k = port-within (portIn s) (ap known (eqb-true (versionOf (portIn s)) (versionIn s) (both (eqb (versionOf (portIn s)) (versionIn s)) (counted (countIn s)) e .0)) ∙ k)
+  on-line e k = carried-line (portIn s) (ap known (eqb-true (versionOf (portIn s)) (versionIn s) (both (eqb (versionOf (portIn s)) (versionIn s)) (counted (countIn s)) e .0)) ∙ k)
 
   by-tests : (t1 t2 t3 t4 t5 : Bool) → leb headLength (length s) ≡ t1 → marked s ≡ t2 → known (versionIn s) ≡ t3 → carried s ≡ t4 → leb (headLength + countIn s) (length s) ≡ t5 → Kind s
   unfolding packetAt
@@ -75,8 +80,7 @@ module _ (s : List ℕ) where
   by-tests true true true true true e1 e2 e3 e4 e5 =
       let h = leb-true headLength (length s) e1 in
       let l = leb-true (headLength + countIn s) (length s) e5 in
-      let p = ported e4 e3 in
-      packet h (p .0) (p .1) (carried-count s e4 .0) (carried-count s e4 .1) l (simp (e1, e2, e3, e4, e5))
+      packet h (on-line e4 e3) (carried-count s e4 .0) (carried-count s e4 .1) l (simp (e1, e2, e3, e4, e5))
       (λ rest.
       let l′ : leb (headLength + countIn s) (length (s ++ rest)) ≡ true = le-leb (headLength + countIn s) (length (s ++ rest)) (simp length-append (omega arith)) in
       simp (long-on rest h, same-mark s rest h, e2, same-version s rest h, e3, same-carried s rest h, e4, same-count s rest h, l′))

@@ -3,7 +3,7 @@
 use Prim.Native.Nat.{ℕ, _+_, _≤_, _<_}
 use mathlib.Core.Path.{_≡_, refl, sym, ap, _∙_, subst}
 use mathlib.Core.Bool.{Bool, true, false, cond, _&&_, not}
-use mathlib.Core.Option.{none, some}
+use mathlib.Core.Option.{Option, none, some}
 use mathlib.Core.List.{List, [], _∷_, _++_}
 use lib.ListN.{length, take, drop, length-take, length-drop}
 use lib.Dec.{eqb, ltb}
@@ -13,13 +13,12 @@ use Rattle.answers.specs.Answer.{number}
 use Rattle.answers.specs.Refusal.{told}
 use Rattle.answers.specs.declared.Refusal.{Refusal}
 use Rattle.answers.specs.declared.Refusal.the-variants.{BytesMissing, Spoilt, TooManyPackets}
-use Rattle.comlynx.specs.Machine as Comlynx
-use Rattle.eversolar.specs.Machine as Eversolar
-use Rattle.fronius.specs.Machine as Fronius
-use Rattle.ports.specs.Ports.{lineOf}
+use Rattle.ports.specs.Ports.{Line, seatOf}
+use Rattle.ports.proofs.Rows.{rowOf, OnLine}
+use Rattle.ports.proofs.Table.{line-of}
 use Rattle.uplink.specs.Packet.{headLength, lineMax, portIn, countIn, packetAt}
 use Rattle.listing.specs.Steps.{packetIn, packetsMax}
-use Rattle.listing.specs.Steps.{freshListing, IsFresh, fed, readable, Made, refused, wantsMore, ends, takes, front, going, inRange, roomLeast, made, Sound, IsStep}
+use Rattle.listing.specs.Steps.{IsFresh, fed, readableOn, readable, Made, refused, wantsMore, ends, takes, front, going, inRange, roomLeast, made, Sound, IsStep}
 use Rattle.stored_day.specs.Demands as Specs
 use Rattle.stored_day.specs.Demands.{Reached, at-first, by-call}
 use Rattle.listing.specs.declared.Listing.{Listing}
@@ -96,20 +95,16 @@ kept l input lent later ended r why st h =
 -- ---- a sound listing is not refused
 
 module _ (l : Listing) (sound : Sound l) (why : Refusal) where
-  readable-at : (port : ℕ) (t u : Bool) → eqb port 1 ≡ t → eqb port 2 ≡ u → 1 ≤ port → port ≤ 3 → readable port (l .ports) ≡ true
-  readable-at port true u e f h k = subst (λ (n : ℕ). readable n (l .ports) ≡ true) (sym (eqb-true port 1 e)) (sound .first)
-  readable-at port false true e f h k = subst (λ (n : ℕ). readable n (l .ports) ≡ true) (sym (eqb-true port 2 f)) (sound .second)
-  readable-at port false false e f h k =
-      let three : port ≡ 3 = omega (arith, eqb-false port 1 e, eqb-false port 2 f) in
-      subst (λ (n : ℕ). readable n (l .ports) ≡ true) (sym three) (sound .third)
+  readable-at : (port : ℕ) → OnLine port → readable port (l .ports) ≡ true
+  readable-at port at = ap (λ (on : Option Line). readableOn on (l .ports)) (line-of (at .0) (sym (at .1))) ∙ sound .readers (at .0)
 
   front-not : (s : List ℕ) (ended : Bool) → Kind s → front l s ended .heard ≡ Refused why → ⊥
   unfolding front
   front-not s true (short n h) = rw n (λ e. let z : _≡_ {A = ℕ} 0 1 = cc in omega arith)
   front-not s false (short n h) = rw n (λ e. let z : _≡_ {A = ℕ} 0 1 = cc in omega arith)
   front-not s ended (wrong w a b n m) = rw (n, a, b) (λ e. let z : _≡_ {A = ℕ} 0 1 = cc in omega arith)
-  front-not s ended (packet a p q c d t n m) =
-      rw (n, readable-at (portIn s) (eqb (portIn s) 1) (eqb (portIn s) 2) refl refl p q) (λ e. let z : _≡_ {A = ℕ} 0 1 = cc in omega arith)
+  front-not s ended (packet a p c d t n m) =
+      rw (n, readable-at (portIn s) p) (λ e. let z : _≡_ {A = ℕ} 0 1 = cc in omega arith)
 
   going-not : (s : List ℕ) (ended : Bool) → going l s ended .heard ≡ Refused why → ⊥
   unfolding going
@@ -125,12 +120,15 @@ module _ (l : Listing) (sound : Sound l) (why : Refusal) where
   unfolding made
   made-not s ended room h = rw (sound .counts, le-ltb room roomLeast h) (going-not s ended)
 
-fresh-sound : Sound freshListing
-unfolding inRange lineOf Comlynx.inRange Eversolar.inRange Fronius.inRange
-fresh-sound = record { counts = refl; first = refl; second = refl; third = refl }
+fresh-sound : (l : Listing) → IsFresh l → Sound l
+unfolding inRange
+fresh-sound l e = record {
+  counts = rw (e .packets, e .messages, e .damages) refl;
+  readers = λ at. ap (seatOf at .inRange) (e .readers at) ∙ rowOf at .fresh-in-range;
+}
 
 reached-sound : (l : Listing) → Reached l → Sound l
-reached-sound l (at-first e) = subst Sound (sym e) fresh-sound
+reached-sound l (at-first e) = fresh-sound l e
 reached-sound l (by-call {l = k} r input lent later ended s st) = st .2 (reached-sound k r)
 
 pub never-refused : Specs.NeverRefused

@@ -2,67 +2,34 @@
 -- Assumes nothing.
 use Prim.Native.Nat.{ℕ, _≤_}
 use mathlib.Core.Path.{_≡_, refl, sym, ap, _∙_, subst}
-use mathlib.Core.Bool.{Bool, true, false}
+use mathlib.Core.Logic.{_⊎_, inl, inr}
 use mathlib.Core.List.{List, [], _∷_, _++_, map}
 use lib.ListN.{length, drop}
-use lib.Dec.{T, eqb}
+use lib.Dec.{T}
 use lib.Pow.{areBytes}
-use borrow.Author.Tests.{eqb-true, eqb-false}
+use borrow.Author.Tests.{eq-eqb}
 use native.Mathlib.Omega.{arith}
 use Rattle.stream.specs.Event.{Event}
-use Rattle.stream.specs.Pieces.{Moved, Ran, calls}
-use Rattle.stream.specs.Family.{Family}
+use Rattle.stream.specs.Pieces.{Ran, calls}
 use Rattle.stream.proofs.Run.{events, after, after-append, calls-is}
-use Rattle.stream.proofs.Facts.{Facts}
-use Rattle.comlynx.specs.Machine as Comlynx
-use Rattle.comlynx.specs.Demands.{comlynx}
-use Rattle.comlynx.proofs.Facts as ComlynxFacts
-use Rattle.eversolar.specs.Machine as Eversolar
-use Rattle.eversolar.specs.Demands.{eversolar}
-use Rattle.eversolar.proofs.Facts as EversolarFacts
-use Rattle.fronius.specs.Machine as Fronius
-use Rattle.fronius.specs.Demands.{fronius}
-use Rattle.fronius.proofs.Facts as FroniusFacts
-use Rattle.ports.specs.Ports.{lineOf}
+use Rattle.ports.specs.Ports.{Line, seatOf}
 use Rattle.ports.specs.declared.Ports.{Ports}
-use Rattle.lines.specs.Lines.{Shown}
-use Rattle.listing.specs.Entries.{showComlynx, showEversolar, showFronius, showEvent}
+use Rattle.ports.proofs.Rows.{rowOf, OnLine}
+use Rattle.ports.proofs.Table.{same-line, other-port}
+use Rattle.listing.specs.Entries.{showEvent}
 use Rattle.listing.specs.Steps.{Packet}
-use Rattle.stored_day.specs.Listing.{foundBy, found, joined, brings}
+use Rattle.stored_day.specs.Listing.{joined, brings}
 use Rattle.listing.specs.Steps.{Fed, fed}
-use Rattle.stored_day.proofs.Found.{brought}
+use Rattle.stored_day.proofs.Found.{foundIn, brought}
 use Rattle.stored_day.proofs.Packets.{joined-same, joined-other}
 
--- ---- of one family
-
-module _ (F : Family) (facts : Facts F) (next : F .State → ℕ → Moved (F .State) (Event (F .Message))) (same : facts .next ≡ next) (show : F .Message → Shown)
-    (port : ℕ) (ps : List Packet) (p : Packet) (own : eqb (p .port) port ≡ true) (s : F .State) (stands : s ≡ after next (F .fresh) (joined port ps)) where
-  abbrev ran : Ran (F .State) (Event (F .Message))
-  ran = calls next (length (p .line)) s (p .line)
-
-  brings-events : T (areBytes (joined port (ps ++ (p ∷ []))))
-      → map (showEvent show) (ran .events) ≡ drop (length (foundBy F show (joined port ps))) (foundBy F show (joined port (ps ++ (p ∷ []))))
-  brings-events g =
-      let j = joined-same port ps p own in
-      ap (λ (r : Ran (F .State) (Event (F .Message))). map (showEvent show) (r .events)) (calls-is next (length (p .line)) s (p .line) (omega arith))
-      ∙ ap (λ (t : F .State). map (showEvent show) (events next t (p .line))) stands
-      ∙ sym (brought F facts next same show (joined port ps) (p .line) (subst (λ (l : List ℕ). T (areBytes l)) j g))
-      ∙ ap (λ (l : List ℕ). drop (length (foundBy F show (joined port ps))) (foundBy F show l)) (sym j)
-
-  leads : ran .state ≡ after next (F .fresh) (joined port (ps ++ (p ∷ [])))
-  leads =
-      ap (λ (r : Ran (F .State) (Event (F .Message))). r .state) (calls-is next (length (p .line)) s (p .line) (omega arith))
-      ∙ ap (λ (t : F .State). after next t (p .line)) stands
-      ∙ sym (after-append next (F .fresh) (joined port ps) (p .line))
-      ∙ ap (after next (F .fresh)) (sym (joined-same port ps p own))
-
--- ---- of all ports
+-- where the packets ps lead the reader of a line
+abbrev pub led : (line : Line) → List Packet → seatOf line .family .State
+led line ps = after (seatOf line .next) (seatOf line .family .fresh) (joined (seatOf line .port) ps)
 
 -- the readers where the packets ps lead them
-pub record Stand (ps : List Packet) (l : Ports) : Type 0 where
-  pub first : l .comlynx ≡ after Comlynx.next Comlynx.fresh (joined 1 ps)
-  pub second : l .eversolar ≡ after Eversolar.next Eversolar.fresh (joined 2 ps)
-  pub third : l .fronius ≡ after Fronius.next Fronius.fresh (joined 3 ps)
+abbrev pub Stand : List Packet → Ports → Type 0
+Stand ps l = (line : Line) → seatOf line .get l ≡ led line ps
 
 -- the line bytes of each port are bytes
 abbrev pub Bytes : List Packet → Type 0
@@ -72,49 +39,54 @@ pub record Right (ps : List Packet) (p : Packet) (f : Fed) : Type 0 where
   pub brought : f .events ≡ brings ps p
   pub stand : Stand (ps ++ (p ∷ [])) (f .ports)
 
-module _ (ps : List Packet) (line : List ℕ) (l : Ports) (st : Stand ps l) where
-  abbrev with : ℕ → Packet
-  with port = record { port = port; line = line }
+-- ---- a packet on a line
 
-  on-first : Bytes (ps ++ (with 1 ∷ [])) → Right ps (with 1) (fed (with 1) l)
-  unfolding lineOf
-  on-first g = record {
-    brought = brings-events comlynx ComlynxFacts.facts Comlynx.next ComlynxFacts.machine showComlynx 1 ps (with 1) refl (l .comlynx) (st .first) (g 1);
-    stand = record {
-      first = leads comlynx ComlynxFacts.facts Comlynx.next ComlynxFacts.machine showComlynx 1 ps (with 1) refl (l .comlynx) (st .first);
-      second = st .second ∙ ap (after Eversolar.next Eversolar.fresh) (sym (joined-other 2 ps (with 1) refl));
-      third = st .third ∙ ap (after Fronius.next Fronius.fresh) (sym (joined-other 3 ps (with 1) refl));
-    };
-  }
+module _ (line : Line) (ps : List Packet) (bs : List ℕ) (l : Ports) (st : Stand ps l) where
+  abbrev port : ℕ
+  port = seatOf line .port
 
-  on-second : Bytes (ps ++ (with 2 ∷ [])) → Right ps (with 2) (fed (with 2) l)
-  unfolding lineOf
-  on-second g = record {
-    brought = brings-events eversolar EversolarFacts.facts Eversolar.next EversolarFacts.machine showEversolar 2 ps (with 2) refl (l .eversolar) (st .second) (g 2);
-    stand = record {
-      first = st .first ∙ ap (after Comlynx.next Comlynx.fresh) (sym (joined-other 1 ps (with 2) refl));
-      second = leads eversolar EversolarFacts.facts Eversolar.next EversolarFacts.machine showEversolar 2 ps (with 2) refl (l .eversolar) (st .second);
-      third = st .third ∙ ap (after Fronius.next Fronius.fresh) (sym (joined-other 3 ps (with 2) refl));
-    };
-  }
+  abbrev p : Packet
+  p = record { port = port; line = bs }
 
-  on-third : Bytes (ps ++ (with 3 ∷ [])) → Right ps (with 3) (fed (with 3) l)
-  unfolding lineOf
-  on-third g = record {
-    brought = brings-events fronius FroniusFacts.facts Fronius.next FroniusFacts.machine showFronius 3 ps (with 3) refl (l .fronius) (st .third) (g 3);
-    stand = record {
-      first = st .first ∙ ap (after Comlynx.next Comlynx.fresh) (sym (joined-other 1 ps (with 3) refl));
-      second = st .second ∙ ap (after Eversolar.next Eversolar.fresh) (sym (joined-other 2 ps (with 3) refl));
-      third = leads fronius FroniusFacts.facts Fronius.next FroniusFacts.machine showFronius 3 ps (with 3) refl (l .fronius) (st .third);
-    };
-  }
+  abbrev ran : Ran (seatOf line .family .State) (Event (seatOf line .family .Message))
+  ran = calls (seatOf line .next) (length bs) (seatOf line .get l) bs
 
-  by-port : (port : ℕ) (t u : Bool) → eqb port 1 ≡ t → eqb port 2 ≡ u → 1 ≤ port → port ≤ 3 → Bytes (ps ++ (with port ∷ [])) → Right ps (with port) (fed (with port) l)
-  by-port port true u a b h k = subst (λ (n : ℕ). Bytes (ps ++ (with n ∷ [])) → Right ps (with n) (fed (with n) l)) (sym (eqb-true port 1 a)) on-first
-  by-port port false true a b h k = subst (λ (n : ℕ). Bytes (ps ++ (with n ∷ [])) → Right ps (with n) (fed (with n) l)) (sym (eqb-true port 2 b)) on-second
-  by-port port false false a b h k =
-      let three : port ≡ 3 = omega (arith, eqb-false port 1 a, eqb-false port 2 b) in
-      subst (λ (n : ℕ). Bytes (ps ++ (with n ∷ [])) → Right ps (with n) (fed (with n) l)) (sym three) on-third
+  own : joined port (ps ++ (p ∷ [])) ≡ joined port ps ++ bs
+  own = joined-same port ps p (eq-eqb port port refl)
 
-pub fed-right : (ps : List Packet) (p : Packet) (l : Ports) → Stand ps l → 1 ≤ p .port → p .port ≤ 3 → Bytes (ps ++ (p ∷ [])) → Right ps p (fed p l)
-fed-right ps p l st h k g = by-port ps (p .line) l st (p .port) (eqb (p .port) 1) (eqb (p .port) 2) refl refl h k g
+  ran-is : ran ≡ record { state = after (seatOf line .next) (seatOf line .get l) bs; events = events (seatOf line .next) (seatOf line .get l) bs; left = [] }
+  ran-is = calls-is (seatOf line .next) (length bs) (seatOf line .get l) bs (omega arith)
+
+  brings-events : T (areBytes (joined port (ps ++ (p ∷ []))))
+      → map (showEvent (seatOf line .show)) (ran .events) ≡ drop (length (foundIn line (joined port ps))) (foundIn line (joined port (ps ++ (p ∷ []))))
+  brings-events g =
+      ap (λ (r : Ran (seatOf line .family .State) (Event (seatOf line .family .Message))). map (showEvent (seatOf line .show)) (r .events)) ran-is
+      ∙ ap (λ (t : seatOf line .family .State). map (showEvent (seatOf line .show)) (events (seatOf line .next) t bs)) (st line)
+      ∙ sym (brought line (joined port ps) bs (subst (λ (k : List ℕ). T (areBytes k)) own g))
+      ∙ ap (λ (k : List ℕ). drop (length (foundIn line (joined port ps))) (foundIn line k)) (sym own)
+
+  leads : ran .state ≡ led line (ps ++ (p ∷ []))
+  leads =
+      ap (λ (r : Ran (seatOf line .family .State) (Event (seatOf line .family .Message))). r .state) ran-is
+      ∙ ap (λ (t : seatOf line .family .State). after (seatOf line .next) t bs) (st line)
+      ∙ sym (after-append (seatOf line .next) (seatOf line .family .fresh) (joined port ps) bs)
+      ∙ ap (after (seatOf line .next) (seatOf line .family .fresh)) (sym own)
+
+  stands-on : Stand (ps ++ (p ∷ [])) (seatOf line .put l (ran .state))
+  stands-on other = go (same-line line other)
+    where
+      go : (line ≡ other) ⊎ (line ≡ other → ⊥) → seatOf other .get (seatOf line .put l (ran .state)) ≡ led other (ps ++ (p ∷ []))
+      go (inl e) =
+          subst (λ (k : Line). seatOf k .get (seatOf line .put l (ran .state)) ≡ led k (ps ++ (p ∷ []))) e
+          (rowOf line .got l (ran .state) ∙ leads)
+      go (inr n) =
+          rowOf line .others other l (ran .state) n ∙ st other
+          ∙ ap (after (seatOf other .next) (seatOf other .family .fresh)) (sym (joined-other (seatOf other .port) ps p (other-port line other n)))
+
+  on-line : Bytes (ps ++ (p ∷ [])) → Right ps p (fed p l)
+  on-line g = record { brought = rw (rowOf line .own-line) (brings-events (g port)); stand = rw (rowOf line .own-line) stands-on }
+
+pub fed-right : (ps : List Packet) (p : Packet) (l : Ports) → Stand ps l → OnLine (p .port) → Bytes (ps ++ (p ∷ [])) → Right ps p (fed p l)
+fed-right ps p l st at =
+    subst (λ (n : ℕ). Bytes (ps ++ (record { port = n; line = p .line } ∷ [])) → Right ps (record { port = n; line = p .line }) (fed (record { port = n; line = p .line }) l)) (at .1)
+    (on-line (at .0) ps (p .line) l st)

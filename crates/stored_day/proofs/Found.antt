@@ -2,6 +2,7 @@
 -- Assumes nothing.
 use Prim.Native.Nat.{ℕ}
 use mathlib.Core.Path.{_≡_, refl, sym, ap, _∙_}
+use mathlib.Core.Option.{some}
 use mathlib.Core.List.{List, [], _∷_, _++_, map}
 use lib.ListN.{length, drop}
 use lib.Seq.{drop-append-seam}
@@ -13,12 +14,13 @@ use Rattle.stream.specs.Rule.{Placed, readings}
 use Rattle.stream.specs.Written.{written, Each}
 use Rattle.stream.specs.Family.{Family}
 use Rattle.stream.proofs.Run.{events, after, events-append}
-use Rattle.stream.proofs.Facts.{Facts}
 use Rattle.stream.proofs.Bytes.{bytes-left}
 use Rattle.stream.proofs.Demands.{events-found, events-written, written-bytes}
+use Rattle.ports.specs.Ports.{Line, seatOf}
+use Rattle.ports.proofs.Rows.{rowOf}
 use Rattle.lines.specs.Lines.{Shown}
 use Rattle.listing.specs.Entries.{showEvent}
-use Rattle.stored_day.specs.Listing.{foundBy}
+use Rattle.stored_day.specs.Listing.{foundOn}
 
 -- ---- of lists
 
@@ -30,20 +32,34 @@ map-append : {A B : Type 0} (f : A → B) (k l : List A) → map f (k ++ l) ≡ 
 map-append f [] l = refl
 map-append f (x ∷ k) l = ap (λ r. f x ∷ r) (map-append f k l)
 
--- `next` is the machine that the facts speak of
-module _ (F : Family) (facts : Facts F) (next : F .State → ℕ → Moved (F .State) (Event (F .Message))) (same : facts .next ≡ next) (show : F .Message → Shown) where
+-- ---- on a line
+
+module _ (line : Line) where
+  abbrev F : Family
+  F = seatOf line .family
+
+  abbrev next : F .State → ℕ → Moved (F .State) (Event (F .Message))
+  next = seatOf line .next
+
+  abbrev show : F .Message → Shown
+  show = seatOf line .show
+
+  abbrev pub foundIn : List ℕ → List (Event Shown)
+  foundIn bs = foundOn (some line) bs
+
   abbrev pub given : F .State → List ℕ → List (Event Shown)
   given s bs = map (showEvent show) (events next s bs)
 
-  events-same : (bs : List ℕ) → events (facts .next) (F .fresh) bs ≡ events next (F .fresh) bs
-  events-same bs = ap (λ (n : F .State → ℕ → Moved (F .State) (Event (F .Message))). events n (F .fresh) bs) same
+  -- the machine of the row is that which the facts speak of
+  events-same : (bs : List ℕ) → events (rowOf line .facts .next) (F .fresh) bs ≡ events next (F .fresh) bs
+  events-same bs = ap (λ (n : F .State → ℕ → Moved (F .State) (Event (F .Message))). events n (F .fresh) bs) (rowOf line .machine)
 
-  pub found-is : (bs : List ℕ) → T (areBytes bs) → foundBy F show bs ≡ given (F .fresh) bs
+  pub found-is : (bs : List ℕ) → T (areBytes bs) → foundIn bs ≡ given (F .fresh) bs
   found-is bs g =
       sym (map-map (λ (p : Placed (Event (F .Message))). p .event) (showEvent show) (readings (F .rule) (F .afterEvent) (F .atStart) bs))
-      ∙ ap (map (showEvent show)) (sym (events-found F facts bs g) ∙ events-same bs)
+      ∙ ap (map (showEvent show)) (sym (events-found F (rowOf line .facts) bs g) ∙ events-same bs)
 
-  pub found-more : (a b : List ℕ) → T (areBytes (a ++ b)) → foundBy F show (a ++ b) ≡ foundBy F show a ++ given (after next (F .fresh) a) b
+  pub found-more : (a b : List ℕ) → T (areBytes (a ++ b)) → foundIn (a ++ b) ≡ foundIn a ++ given (after next (F .fresh) a) b
   found-more a b g =
       found-is (a ++ b) g
       ∙ ap (map (showEvent show)) (events-append next (F .fresh) a b)
@@ -51,11 +67,14 @@ module _ (F : Family) (facts : Facts F) (next : F .State → ℕ → Moved (F .S
       ∙ ap (λ (l : List (Event Shown)). l ++ given (after next (F .fresh) a) b) (sym (found-is a (bytes-left a b g)))
 
   -- what the bytes b bring after the bytes a
-  pub brought : (a b : List ℕ) → T (areBytes (a ++ b)) → drop (length (foundBy F show a)) (foundBy F show (a ++ b)) ≡ given (after next (F .fresh) a) b
-  brought a b g = ap (drop (length (foundBy F show a))) (found-more a b g) ∙ drop-append-seam (foundBy F show a) (given (after next (F .fresh) a) b)
+  pub brought : (a b : List ℕ) → T (areBytes (a ++ b)) → drop (length (foundIn a)) (foundIn (a ++ b)) ≡ given (after next (F .fresh) a) b
+  brought a b g = ap (drop (length (foundIn a))) (found-more a b g) ∙ drop-append-seam (foundIn a) (given (after next (F .fresh) a) b)
 
   shown-messages : (ms : List (F .Message)) → map (showEvent show) (map message ms) ≡ map (λ m. message (show m)) ms
   shown-messages ms = map-map message (showEvent show) ms
 
-  pub found-written : (ms : List (F .Message)) → Each (F .Takes) ms → foundBy F show (written (F .wire) ms) ≡ map (λ m. message (show m)) ms
-  found-written ms t = found-is (written (F .wire) ms) (written-bytes F facts ms t) ∙ ap (map (showEvent show)) (sym (events-same (written (F .wire) ms)) ∙ events-written F facts ms t) ∙ shown-messages ms
+  pub found-written : (ms : List (F .Message)) → Each (F .Takes) ms → foundIn (written (F .wire) ms) ≡ map (λ m. message (show m)) ms
+  found-written ms t =
+      found-is (written (F .wire) ms) (written-bytes F (rowOf line .facts) ms t)
+      ∙ ap (map (showEvent show)) (sym (events-same (written (F .wire) ms)) ∙ events-written F (rowOf line .facts) ms t)
+      ∙ shown-messages ms

@@ -20,7 +20,7 @@ use Rattle.lines.specs.Lines.{headLine}
 use Rattle.listing.specs.Entries.{entriesOn, Entry, linesOf, messagesIn, damagesIn, lastLines}
 use Rattle.listing.specs.Steps.{Packet, packetIn, packetsMax}
 use Rattle.stored_day.specs.Listing.{Cut, stopped, before, whole, byPacket, byEnd, cut, joined, brings, entries, listingOf}
-use Rattle.listing.specs.Steps.{freshListing, IsFresh, Fed, fed, readable, Made, refused, wantsMore, ends, takes, made, IsStep}
+use Rattle.listing.specs.Steps.{IsFresh, Fed, fed, readable, Made, refused, wantsMore, ends, takes, made, IsStep}
 use Rattle.stored_day.specs.Demands.{Has, Prints, reads-on, takes as took, ends as over, Makes}
 use Rattle.listing.specs.declared.Listing.{Listing}
 use Rattle.listing.specs.declared.Listed.{Listed}
@@ -125,7 +125,7 @@ module _ (ps : List Packet) (l : Listing) (st : Stands ps l) where
           (bytes-append (joined port ps) (joined port (p ∷ [])) (st .bytes port) (one-more port (eqb (p .port) port)))
 
       right : Right ps p f
-      right = fed-right ps p (l .ports) (st .readers) (w .port-least) (w .port-most) bytes-on
+      right = fed-right ps p (l .ports) (st .readers) (w .on-line) bytes-on
 
       es : entriesOn (p .port) (f .events) ≡ entriesOn (p .port) (brings ps p)
       es = ap (entriesOn (p .port)) (right .brought)
@@ -220,10 +220,9 @@ prints l left text-printed ps st good (took {text} front lent later ended r has 
 prints l left text ps st good (over front lent later ended r has step heard) =
     printed l front lent later ended r step ∙ call-does l front left lent later ended r ps st has good step End heard
 
-fresh-stands : Stands [] freshListing
-fresh-stands = record { readers = record { first = refl; second = refl; third = refl }; bytes = λ port. tt; taken = refl; few = omega arith; messages = refl; damages = refl }
+fresh-stands : (l : Listing) → IsFresh l → Stands [] l
+fresh-stands l e = record { readers = e .readers; bytes = λ port. tt; taken = e .packets; few = omega arith; messages = e .messages; damages = e .damages }
 
 pub makes : Makes
 unfolding listingOf
-makes input text l good fresh p =
-    ap (λ (t : List ℕ). headLine ++ t) (prints l input text [] (subst (Stands []) (sym fresh) fresh-stands) good p)
+makes input text l good fresh p = ap (λ (t : List ℕ). headLine ++ t) (prints l input text [] (fresh-stands l fresh) good p)

@@ -15,6 +15,7 @@ use Rattle.answers.specs.declared.Refusal.{Refusal}
 use Rattle.answers.specs.declared.Refusal.the-variants.{NoRoom, BytesMissing, Spoilt, TooManyPackets}
 use Rattle.uplink.specs.Packet.{headLength, lineMax, portIn, countIn, packetAt}
 use Rattle.uplink.proofs.Laws.{both}
+use Rattle.ports.proofs.Rows.{OnLine}
 use Rattle.listing.specs.Steps.{packetIn, packetsMax}
 use Rattle.listing.specs.Steps.{fed, readable, Made, refused, wantsMore, ends, takes, front, going, inRange, roomLeast, made}
 use Rattle.listing.specs.declared.Listing.{Listing}
@@ -23,8 +24,7 @@ use Rattle.stored_day.proofs.Cuts.{Kind, short, wrong, packet, kind}
 -- a packet at the front, whatever follows
 pub record Whole (s : List ℕ) : Type 0 where
   pub long : headLength ≤ length s
-  pub port-least : 1 ≤ portIn s
-  pub port-most : portIn s ≤ 3
+  pub on-line : OnLine (portIn s)
   pub count-least : 1 ≤ countIn s
   pub count-most : countIn s ≤ lineMax
   pub there : headLength + countIn s ≤ length s
@@ -45,10 +45,10 @@ module _ (l : Listing) (s : List ℕ) (within : l .packets ≤ packetsMax) where
   by-front true some-left few (short n h) = rw n (stops (told BytesMissing) some-left few refl (λ rest all. ap (λ (r : List ℕ). number (packetAt (s ++ r))) (all refl) ∙ rw append-nil n))
   by-front false some-left few (short n h) = rw n (wants refl h)
   by-front ended some-left few (wrong why a b n m) = rw (n, a, b) (stops (told why) some-left few a (λ rest all. m rest))
-  by-front ended some-left few (packet a p q c d t n m) = rw n (go (readable (portIn s) (l .ports)) refl)
+  by-front ended some-left few (packet a p c d t n m) = rw n (go (readable (portIn s) (l .ports)) refl)
     where
       go : (t : Bool) → readable (portIn s) (l .ports) ≡ t → Outcome l s ended (cond t (takes l (packetIn s) (fed (packetIn s) (l .ports))) (refused Spoilt l))
-      go true e = packets few (omega (arith, eqb-false (l .packets) packetsMax few)) (record { long = a; port-least = p; port-most = q; count-least = c; count-most = d; there = t; accepted = m }) e
+      go true e = packets few (omega (arith, eqb-false (l .packets) packetsMax few)) (record { long = a; on-line = p; count-least = c; count-most = d; there = t; accepted = m }) e
       go false e = refuses Spoilt
 
 by-packets : (l : Listing) → l .packets ≤ packetsMax → (b : ℕ) (bs : List ℕ) (ended t : Bool) → eqb (l .packets) packetsMax ≡ t

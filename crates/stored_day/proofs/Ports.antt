@@ -3,6 +3,7 @@
 use Prim.Native.Nat.{ℕ, _+_, _≤_}
 use mathlib.Core.Path.{_≡_, refl, sym, ap, ap₂, _∙_, subst}
 use mathlib.Core.Bool.{Bool, true, false, cond}
+use mathlib.Core.Option.{Option, none, some}
 use mathlib.Core.List.{List, [], _∷_, _++_, map, append-nil, append-assoc}
 use lib.ListN.{length, drop}
 use lib.Seq.{drop-append-seam}
@@ -13,18 +14,11 @@ use native.Mathlib.Omega.{arith}
 use Rattle.stream.specs.Event.{Event, message, damage}
 use Rattle.stream.proofs.Run.{after}
 use Rattle.stream.proofs.Bytes.{bytes-left}
-use Rattle.comlynx.specs.Machine as Comlynx
-use Rattle.comlynx.specs.Demands.{comlynx}
-use Rattle.comlynx.proofs.Facts as ComlynxFacts
-use Rattle.eversolar.specs.Machine as Eversolar
-use Rattle.eversolar.specs.Demands.{eversolar}
-use Rattle.eversolar.proofs.Facts as EversolarFacts
-use Rattle.fronius.specs.Machine as Fronius
-use Rattle.fronius.specs.Demands.{fronius}
-use Rattle.fronius.proofs.Facts as FroniusFacts
-use Rattle.ports.specs.Ports.{Line, comlynxLine, eversolarLine, froniusLine, noLine, lineOf}
+use Rattle.ports.specs.Ports.{Line, lines, sumOver, seatOf, lineOf}
+use Rattle.ports.proofs.Rows.{rowOf, OnLine}
+use Rattle.ports.proofs.Table.{sums-to-none}
 use Rattle.lines.specs.Lines.{Shown}
-use Rattle.listing.specs.Entries.{showComlynx, showEversolar, showFronius, Entry, entriesOn, isMessage, isDamage, messagesIn, damagesIn}
+use Rattle.listing.specs.Entries.{Entry, entriesOn, isMessage, isDamage, messagesIn, damagesIn}
 use Rattle.listing.specs.Steps.{Packet}
 use Rattle.stored_day.specs.Listing.{foundOn, found, joined, brings, entries}
 use Rattle.stored_day.specs.Demands.{onPort, ByPort, CutsDoNotMatter}
@@ -33,24 +27,13 @@ use Rattle.stored_day.proofs.Packets.{on-append, on-same, on-other, joi
 
 -- ---- more bytes of a port only add to what is found in it
 
-record Grows (line : Line) (a b : List ℕ) : Type 0 where
+record Grows (on : Option Line) (a b : List ℕ) : Type 0 where
   more : List (Event Shown)
-  adds : foundOn line (a ++ b) ≡ foundOn line a ++ more
+  adds : foundOn on (a ++ b) ≡ foundOn on a ++ more
 
-grows : (line : Line) (a b : List ℕ) → T (areBytes (a ++ b)) → Grows line a b
-grows comlynxLine a b h = record {
-  more = given comlynx ComlynxFacts.facts Comlynx.next ComlynxFacts.machine showComlynx (after Comlynx.next Comlynx.fresh a) b;
-  adds = found-more comlynx ComlynxFacts.facts Comlynx.next ComlynxFacts.machine showComlynx a b h;
-}
-grows eversolarLine a b h = record {
-  more = given eversolar EversolarFacts.facts Eversolar.next EversolarFacts.machine showEversolar (after Eversolar.next Eversolar.fresh a) b;
-  adds = found-more eversolar EversolarFacts.facts Eversolar.next EversolarFacts.machine showEversolar a b h;
-}
-grows froniusLine a b h = record {
-  more = given fronius FroniusFacts.facts Fronius.next FroniusFacts.machine showFronius (after Fronius.next Fronius.fresh a) b;
-  adds = found-more fronius FroniusFacts.facts Fronius.next FroniusFacts.machine showFronius a b h;
-}
-grows noLine a b h = record { more = []; adds = refl }
+grows : (on : Option Line) (a b : List ℕ) → T (areBytes (a ++ b)) → Grows on a b
+grows none a b h = record { more = []; adds = refl }
+grows (some line) a b h = record { more = given line (after (seatOf line .next) (seatOf line .family .fresh) a) b; adds = found-more line a b h }
 
 adds-up : (port : ℕ) (a b : List ℕ) → T (areBytes (a ++ b)) → found port a ++ drop (length (found port a)) (found port (a ++ b)) ≡ found port (a ++ b)
 adds-up port a b h =
@@ -93,11 +76,9 @@ module _ (port : ℕ) where
       ∙ ap (λ (l : List Packet). found port (joined port l)) (sym split)
 
 -- nothing is found in no bytes
-nothing : (line : Line) → foundOn line [] ≡ []
-nothing comlynxLine = refl
-nothing eversolarLine = refl
-nothing froniusLine = refl
-nothing noLine = refl
+nothing : (on : Option Line) → foundOn on [] ≡ []
+nothing none = refl
+nothing (some line) = refl
 
 pub by-port : ByPort
 by-port port ps g =
@@ -110,10 +91,29 @@ cuts-do-not-matter port ps qs g e =
 
 -- ---- the counts, port by port
 
--- every entry is on one of the three ports
-abbrev pub OnThree : List Entry → Type 0
-OnThree [] = Unit {0}
-OnThree (e ∷ es) = (1 ≤ e .port) × (e .port ≤ 3) × OnThree es
+-- every entry is on a port that has a line
+abbrev pub OnLines : List Entry → Type 0
+OnLines [] = Unit {0}
+OnLines (e ∷ es) = OnLine (e .port) × OnLines es
+
+-- where one line is chosen, a number for the chosen ones comes to that number
+none-chosen : (ls : List Line) (chosen : Line → Bool) (k : ℕ) → sumOver ls (λ l. cond (chosen l) 1 0) ≡ 0 → sumOver ls (λ l. cond (chosen l) k 0) ≡ 0
+none-chosen [] chosen k e = refl
+none-chosen (l ∷ ls) chosen k e = go (chosen l) e (none-chosen ls chosen k)
+  where
+    go : (t : Bool) → cond t 1 0 + sumOver ls (λ l. cond (chosen l) 1 0) ≡ 0
+        → (sumOver ls (λ l. cond (chosen l) 1 0) ≡ 0 → sumOver ls (λ l. cond (chosen l) k 0) ≡ 0) → cond t k 0 + sumOver ls (λ l. cond (chosen l) k 0) ≡ 0
+    go true h more = absurd (omega arith)
+    go false h more = let rest = more (omega arith) in omega arith
+
+one-chosen : (ls : List Line) (chosen : Line → Bool) (k : ℕ) → sumOver ls (λ l. cond (chosen l) 1 0) ≡ 1 → sumOver ls (λ l. cond (chosen l) k 0) ≡ k
+one-chosen [] chosen k e = absurd (omega arith)
+one-chosen (l ∷ ls) chosen k e = go (chosen l) e (one-chosen ls chosen k)
+  where
+    go : (t : Bool) → cond t 1 0 + sumOver ls (λ l. cond (chosen l) 1 0) ≡ 1
+        → (sumOver ls (λ l. cond (chosen l) 1 0) ≡ 1 → sumOver ls (λ l. cond (chosen l) k 0) ≡ k) → cond t k 0 + sumOver ls (λ l. cond (chosen l) k 0) ≡ k
+    go true h more = let rest = none-chosen ls chosen k (omega arith) in omega arith
+    go false h more = let rest = more (omega arith) in omega arith
 
 -- an entry is counted on its own port, and on no other
 module _ (n : Event Shown → ℕ) where
@@ -125,21 +125,24 @@ module _ (n : Event Shown → ℕ) where
   inAll [] = 0
   inAll (e ∷ es) = n (e .event) + inAll es
 
-  one-entry : (e : Entry) (a b c : List (Event Shown)) (t u v : Bool) → eqb (e .port) 1 ≡ t → eqb (e .port) 2 ≡ u → eqb (e .port) 3 ≡ v → 1 ≤ e .port → e .port ≤ 3
-      → n (e .event) + (among a + (among b + among c)) ≡ among (cond t (e .event ∷ a) a) + (among (cond u (e .event ∷ b) b) + among (cond v (e .event ∷ c) c))
-  one-entry e a b c true true v x y z h k = absurd (omega (arith, eqb-true (e .port) 1 x, eqb-true (e .port) 2 y))
-  one-entry e a b c true false true x y z h k = absurd (omega (arith, eqb-true (e .port) 1 x, eqb-true (e .port) 3 z))
-  one-entry e a b c true false false x y z h k = omega arith
-  one-entry e a b c false true true x y z h k = absurd (omega (arith, eqb-true (e .port) 2 y, eqb-true (e .port) 3 z))
-  one-entry e a b c false true false x y z h k = omega arith
-  one-entry e a b c false false true x y z h k = omega arith
-  one-entry e a b c false false false x y z h k = absurd (omega (arith, eqb-false (e .port) 1 x, eqb-false (e .port) 2 y, eqb-false (e .port) 3 z))
+  one-entry : (ls : List Line) (e : Event Shown) (chosen : Line → Bool) (a : Line → List (Event Shown))
+      → sumOver ls (λ l. among (cond (chosen l) (e ∷ a l) (a l))) ≡ sumOver ls (λ l. cond (chosen l) (n e) 0) + sumOver ls (λ l. among (a l))
+  one-entry [] e chosen a = refl
+  one-entry (l ∷ ls) e chosen a = go (chosen l) (one-entry ls e chosen a)
+    where
+      go : (t : Bool) → sumOver ls (λ l. among (cond (chosen l) (e ∷ a l) (a l))) ≡ sumOver ls (λ l. cond (chosen l) (n e) 0) + sumOver ls (λ l. among (a l))
+          → among (cond t (e ∷ a l) (a l)) + sumOver ls (λ l. among (cond (chosen l) (e ∷ a l) (a l)))
+          ≡ (cond t (n e) 0 + sumOver ls (λ l. cond (chosen l) (n e) 0)) + (among (a l) + sumOver ls (λ l. among (a l)))
+      go true h = omega arith
+      go false h = omega arith
 
-  pub by-ports : (es : List Entry) → OnThree es → inAll es ≡ among (onPort 1 es) + (among (onPort 2 es) + among (onPort 3 es))
-  by-ports [] h = omega arith
+  pub by-ports : (es : List Entry) → OnLines es → inAll es ≡ sumOver lines (λ l. among (onPort (seatOf l .port) es))
+  by-ports [] h = sym (sums-to-none lines (λ l. 0) (λ l. refl))
   by-ports (e ∷ es) h =
-      ap (λ (k : ℕ). n (e .event) + k) (by-ports es (h .2))
-      ∙ one-entry e (onPort 1 es) (onPort 2 es) (onPort 3 es) (eqb (e .port) 1) (eqb (e .port) 2) (eqb (e .port) 3) refl refl refl (h .0) (h .1)
+      let chosen = one-chosen lines (λ l. eqb (e .port) (seatOf l .port)) (n (e .event))
+      (subst (λ (q : ℕ). sumOver lines (λ l. cond (eqb q (seatOf l .port)) 1 0) ≡ 1) (h .0 .1) (rowOf (h .0 .0) .once)) in
+      ap₂ _+_ (sym chosen) (by-ports es (h .1))
+      ∙ sym (one-entry lines (e .event) (λ l. eqb (e .port) (seatOf l .port)) (λ l. onPort (seatOf l .port) es))
 
 pub messages-are : (es : List Entry) → messagesIn es ≡ inAll isMessage es
 messages-are [] = refl

@@ -12,13 +12,11 @@ use Rattle.answers.specs.declared.Refusal.{Refusal}
 use Rattle.answers.specs.declared.Written.{Written}
 use Rattle.stream.specs.Event.{Event, message}
 use Rattle.stream.specs.Written.{written, Each}
-use Rattle.comlynx.specs.Wire as Comlynx
-use Rattle.eversolar.specs.Wire as Eversolar
-use Rattle.fronius.specs.Wire as Fronius
 use Rattle.uplink.specs.Packet as Uplink
 use Rattle.uplink.specs.Packet.{headLength, lineMax}
+use Rattle.ports.specs.Ports.{Line, lines, sumOver, seatOf}
 use Rattle.lines.specs.Lines.{Shown, headLine, endLine}
-use Rattle.listing.specs.Entries.{showComlynx, showEversolar, showFronius, Entry, linesOf}
+use Rattle.listing.specs.Entries.{Entry, linesOf}
 use Rattle.listing.specs.Steps.{Packet, packetsMax}
 use Rattle.stored_day.specs.Listing.{found, joined, entries, listingOf}
 use Rattle.listing.specs.Steps.{IsFresh, IsStep, roomLeast}
@@ -97,19 +95,20 @@ pub data Packed : List Packet → List ℕ → Type 0 where
   and-one : {ps : List Packet} {bytes : List ℕ} (p : Packet) (lent later : List ℕ) (w : Written) (n : ℕ)
       → Uplink.IsWritten (p .port) (p .line) lent w later → Written.told w ≡ answer 0 (n ∷ []) → Packed ps bytes → Packed (p ∷ ps) (take n later ++ bytes)
 
--- an input lists as exactly these messages, those of each port in order, and no damage
-pub record ListsAs (input : List ℕ) (ms : List Comlynx.Message) (ns : List Eversolar.Message) (os : List Fronius.Message) : Type 0 where
+-- messages for each line
+abbrev pub Messages : Type 0
+Messages = (line : Line) → List (seatOf line .family .Message)
+
+-- an input lists as exactly these messages, those of each line on its port and in order, and no damage
+pub record ListsAs (input : List ℕ) (ms : Messages) : Type 0 where
   pub listed : List Entry
-  pub first : onPort 1 listed ≡ map (λ m. message (showComlynx m)) ms
-  pub second : onPort 2 listed ≡ map (λ m. message (showEversolar m)) ns
-  pub third : onPort 3 listed ≡ map (λ m. message (showFronius m)) os
-  pub text : listingOf input ≡ headLine ++ (linesOf listed ++ endLine (length ms + (length ns + length os)) 0)
+  pub each : (line : Line) → onPort (seatOf line .port) listed ≡ map (λ m. message (seatOf line .show m)) (ms line)
+  pub text : listingOf input ≡ headLine ++ (linesOf listed ++ endLine (sumOver lines (λ line. length (ms line))) 0)
 
 -- THE STORED DAY: messages written on each port, packed by the packet writer cut anywhere and in any order of the ports, list as exactly those messages
 abbrev pub StoredDay : Type 0
 StoredDay =
     (ps : List Packet) (input : List ℕ) → Packed ps input → length ps ≤ packetsMax
-    → (ms : List Comlynx.Message) (ns : List Eversolar.Message) (os : List Fronius.Message)
-    → Each Comlynx.Takes ms → Each Eversolar.Takes ns → Each Fronius.Takes os
-    → joined 1 ps ≡ written Comlynx.wire ms → joined 2 ps ≡ written Eversolar.wire ns → joined 3 ps ≡ written Fronius.wire os
-    → ListsAs input ms ns os
+    → (ms : Messages) → ((line : Line) → Each (seatOf line .family .Takes) (ms line))
+    → ((line : Line) → joined (seatOf line .port) ps ≡ written (seatOf line .family .wire) (ms line))
+    → ListsAs input ms

@@ -11,14 +11,10 @@ use Rattle.answers.specs.Refusal as Refusal
 use Rattle.answers.specs.declared.Refusal.the-variants.{TooManyPackets}
 use Rattle.stream.specs.Event.{Event}
 use Rattle.stream.specs.Rule.{readings}
-use Rattle.stream.specs.Family.{Family}
-use Rattle.comlynx.specs.Demands.{comlynx}
-use Rattle.eversolar.specs.Demands.{eversolar}
-use Rattle.fronius.specs.Demands.{fronius}
 use Rattle.uplink.specs.Packet.{headLength, countIn, packetAt}
-use Rattle.ports.specs.Ports.{Line, comlynxLine, eversolarLine, froniusLine, noLine, lineOf}
+use Rattle.ports.specs.Ports.{Line, seatOf, lineOf}
 use Rattle.lines.specs.Lines.{Shown, headLine}
-use Rattle.listing.specs.Entries.{showComlynx, showEversolar, showFronius, showEvent, Entry, entriesOn, linesOf, messagesIn, damagesIn, lastLines}
+use Rattle.listing.specs.Entries.{showEvent, Entry, entriesOn, linesOf, messagesIn, damagesIn, lastLines}
 use Rattle.listing.specs.Steps.{Packet, packetIn, packetsMax}
 
 -- ---- the packets of an input
@@ -55,14 +51,11 @@ cut (suc n) s = byPacket s (cut n (drop (headLength + countIn s) s))
 
 -- ---- what a port's bytes come to, by the rule of its family
 
-abbrev pub foundBy : (F : Family) → (F .Message → Shown) → List ℕ → List (Event Shown)
-foundBy F show bs = map (λ p. showEvent show (p .event)) (readings (F .rule) (F .afterEvent) (F .atStart) bs)
-
-abbrev pub foundOn : Line → List ℕ → List (Event Shown)
-foundOn comlynxLine bs = foundBy comlynx showComlynx bs
-foundOn eversolarLine bs = foundBy eversolar showEversolar bs
-foundOn froniusLine bs = foundBy fronius showFronius bs
-foundOn noLine bs = []
+abbrev pub foundOn : Option Line → List ℕ → List (Event Shown)
+foundOn none bs = []
+foundOn (some line) bs =
+    let F = seatOf line .family in
+    map (λ p. showEvent (seatOf line .show) (p .event)) (readings (F .rule) (F .afterEvent) (F .atStart) bs)
 
 abbrev pub found : (port : ℕ) → List ℕ → List (Event Shown)
 found port bs = foundOn (lineOf port) bs

@@ -13,9 +13,10 @@ use Rattle.uplink.specs.Packet.{headLength, IsRead}
 use Rattle.uplink.specs.Demands.{Within}
 use Rattle.uplink.specs.declared.Received.the-variants.{Packet}
 use Rattle.uplink.proofs.Demands.{fits}
+use Rattle.ports.specs.Ports.{comlynxLine, eversolarLine, froniusLine}
 use Rattle.listing.specs.Steps.{refused, ends, inRange, roomLeast, made}
 use Rattle.listing.specs.Making.{stopOf, CanTake, packet, taking}
-use Rattle.listing.proofs.Making.{fits as counts-fit, in-few, counts-few, same-made, nothing, line-long, on-first, on-second, on-third, drain-refused, drain-taken, out-of-range, no-room, no-input, too-many, one-packet, refused-packet}
+use Rattle.listing.proofs.Making.{fits as counts-fit, in-few, counts-few, same-made, nothing, line-long, drain-refused, drain-taken, out-of-range, no-room, no-input, too-many, one-packet, refused-packet}
 use borrow.Author.Needs.{needs}
 use Rattle.listing.proofs.Listing.step.Statement.{statement}
 use Rattle.listing.proofs.Listing.step.Tie as tie
@@ -175,7 +176,7 @@ returns-5 c =
     let is : port-of p ≡ 1 = omega (arith, c .before .before .before .before .before .before .before .before .if5 .taken) in
     let r = c .refused3 in
     same-made (a .self) (now (a .out)) (d .last .1 .1 .1 .0) (r .result) (at-port p 1 is)
-    (drain-refused on-first (a .self) (line-of p) (now (a .out)) (d .last .1 .1 .1 .0) (d .result .reader) (d .result .spoilt) (d .result .wrote) (d .result .messages) (d .result .damages)
+    (drain-refused comlynxLine (a .self) (line-of p) (now (a .out)) (d .last .1 .1 .1 .0) (d .result .reader) (d .result .spoilt) (d .result .wrote) (d .result .messages) (d .result .damages)
     (r .result) (d .ensures) (c .before .if6 .taken) (r .ensures))
 
 add-self : tie.Need-add-self
@@ -208,7 +209,7 @@ returns-6 c =
     let is : port-of p ≡ 1 = omega (arith, c .before .before .before .before .before .before .before .before .before .before .before .before .before .before .if5 .taken) in
     let r = c .taken in
     same-made (a .self) (now (a .out)) (d .last .1 .1 .1 .0) (r .result) (at-port p 1 is)
-    (drain-taken on-first (a .self) (line-of p) (now (a .out)) (d .last .1 .1 .1 .0) (d .result .reader) (d .result .spoilt) (d .result .wrote) (d .result .messages) (d .result .damages)
+    (drain-taken comlynxLine (a .self) (line-of p) (now (a .out)) (d .last .1 .1 .1 .0) (d .result .reader) (d .result .spoilt) (d .result .wrote) (d .result .messages) (d .result .damages)
     (r .result) (d .ensures) (c .before .before .before .before .before .before .before .if6 .left) (can-take p) (r .ensures))
 
 drain-eversolar-requires : tie.Need-drain-eversolar-requires
@@ -228,7 +229,7 @@ returns-7 c =
     let is : port-of p ≡ 2 = omega (arith, c .before .before .before .before .before .before .before .before .if7 .taken) in
     let r = c .refused4 in
     same-made (a .self) (now (a .out)) (d .last .1 .1 .1 .0) (r .result) (at-port p 2 is)
-    (drain-refused on-second (a .self) (line-of p) (now (a .out)) (d .last .1 .1 .1 .0) (d .result .reader) (d .result .spoilt) (d .result .wrote) (d .result .messages) (d .result .damages)
+    (drain-refused eversolarLine (a .self) (line-of p) (now (a .out)) (d .last .1 .1 .1 .0) (d .result .reader) (d .result .spoilt) (d .result .wrote) (d .result .messages) (d .result .damages)
     (r .result) (d .ensures) (c .before .if8 .taken) (r .ensures))
 
 add-self-4 : tie.Need-add-self-4
@@ -261,7 +262,7 @@ returns-8 c =
     let is : port-of p ≡ 2 = omega (arith, c .before .before .before .before .before .before .before .before .before .before .before .before .before .before .if7 .taken) in
     let r = c .taken2 in
     same-made (a .self) (now (a .out)) (d .last .1 .1 .1 .0) (r .result) (at-port p 2 is)
-    (drain-taken on-second (a .self) (line-of p) (now (a .out)) (d .last .1 .1 .1 .0) (d .result .reader) (d .result .spoilt) (d .result .wrote) (d .result .messages) (d .result .damages)
+    (drain-taken eversolarLine (a .self) (line-of p) (now (a .out)) (d .last .1 .1 .1 .0) (d .result .reader) (d .result .spoilt) (d .result .wrote) (d .result .messages) (d .result .damages)
     (r .result) (d .ensures) (c .before .before .before .before .before .before .before .if8 .left) (can-take p) (r .ensures))
 
 drain-fronius-requires : tie.Need-drain-fronius-requires
@@ -281,7 +282,7 @@ returns-9 c =
     let is : port-of p ≡ 3 = omega (arith, within p .first, within p .last, c .before .before .before .before .before .before .before .before .before .if5 .left, c .before .before .before .before .before .before .before .before .if7 .left) in
     let r = c .refused5 in
     same-made (a .self) (now (a .out)) (d .last .1 .1 .1 .0) (r .result) (at-port p 3 is)
-    (drain-refused on-third (a .self) (line-of p) (now (a .out)) (d .last .1 .1 .1 .0) (d .result .reader) (d .result .spoilt) (d .result .wrote) (d .result .messages) (d .result .damages)
+    (drain-refused froniusLine (a .self) (line-of p) (now (a .out)) (d .last .1 .1 .1 .0) (d .result .reader) (d .result .spoilt) (d .result .wrote) (d .result .messages) (d .result .damages)
     (r .result) (d .ensures) (c .before .if9 .taken) (r .ensures))
 
 add-self-7 : tie.Need-add-self-7
@@ -320,7 +321,7 @@ returns-10 c =
     let is : port-of p ≡ 3 = omega (arith, within p .first, within p .last, c .before .before .before .before .before .before .before .before .before .before .before .before .before .before .before .if5 .left, c .before .before .before .before .before .before .before .before .before .before .before .before .before .before .if7 .left) in
     let r = c .taken3 in
     same-made (a .self) (now (a .out)) (d .last .1 .1 .1 .0) (r .result) (at-port p 3 is)
-    (drain-taken on-third (a .self) (line-of p) (now (a .out)) (d .last .1 .1 .1 .0) (d .result .reader) (d .result .spoilt) (d .result .wrote) (d .result .messages) (d .result .damages)
+    (drain-taken froniusLine (a .self) (line-of p) (now (a .out)) (d .last .1 .1 .1 .0) (d .result .reader) (d .result .spoilt) (d .result .wrote) (d .result .messages) (d .result .damages)
     (r .result) (d .ensures) (c .before .before .before .before .before .before .before .if9 .left) (can-take p) (r .ensures))
 
 same-length-9 : tie.Need-same-length-9
