@@ -5,9 +5,9 @@ import frames
 
 # our program and the C one beside it
 PAIRS = {
-    "reading": ("pace", "plain.c"),
-    "writing": ("write_pace", "writers.c"),
-    "giving": ("roster_pace", "roster.c"),
+    "reading": ("pace_reading", "plain.c"),
+    "writing": ("pace_writing", "writers.c"),
+    "giving": ("pace_giving", "roster.c"),
     "listing": ("sbrlist", "listing.c"),
 }
 

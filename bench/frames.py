@@ -5,7 +5,7 @@ Addresses, codes and data are random, by a fixed seed. Written from document 01 
 import itertools
 import random
 
-MOST = 65536  # bytes that `pace` reads, and packets that `sbrlist` lists
+MOST = 65536  # bytes that `pace_reading` reads, and packets that `sbrlist` lists
 LINE = 240  # line bytes of a full packet
 SPECIAL = bytes([0x7E, 0x7D, 0x5E, 0xAA, 0x55, 0x80, 0x81, 0x00])  # bytes that mean something to some family
 
@@ -64,7 +64,7 @@ def spoilt(text, every):
 
 
 def stream(family, count, most):
-    """As many frames of so many data bytes as fit; how many they are; and the line that `pace` prints of them."""
+    """As many frames of so many data bytes as fit; how many they are; and the line that `pace_reading` prints of them."""
     number, frame, limit = FAMILIES[family]
     assert 0 <= count <= limit and 0 <= most <= MOST
     rng = random.Random(f"{family} {count}")

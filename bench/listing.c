@@ -136,7 +136,7 @@ struct comlynx {
     size count; /* how many are held; CL_TOO_MANY where there were more than fit */
 };
 
-#include "fcs.h"
+#include "checksum.h"
 
 static void comlynx_keep(struct comlynx *r, u8 b)
 {
@@ -157,7 +157,7 @@ static int comlynx_judge(const struct comlynx *r)
         return WRONG_START;
     if (s[6] != n - CL_HEADER - 2)
         return WRONG_SIZE;
-    if (fcs(s, n - 2) != (s[n - 2] | s[n - 1] << 8))
+    if (checksum(s, n - 2) != (s[n - 2] | s[n - 1] << 8))
         return WRONG_SUM;
     return 0;
 }

@@ -1,6 +1,6 @@
 /* The readers of document 01 in plain C, for the bench to measure beside: a state machine each, byte by byte, its state
- * in a struct. Reads what `pace` reads, and prints the line that it prints. All stands in one file, so that the compiler
- * may put a reader into its host's loop, as it may in `pace`. */
+ * in a struct. Reads what `pace_reading` reads, and prints the line that it prints. All stands in one file, so that the compiler
+ * may put a reader into its host's loop, as it may in `pace_reading`. */
 #include "host.h"
 
 /* document 01's answer numbers */
@@ -37,7 +37,7 @@ struct comlynx_header {
     size len;
 };
 
-#include "fcs.h"
+#include "checksum.h"
 
 static void comlynx_keep(struct comlynx *r, u8 b)
 {
@@ -58,7 +58,7 @@ static int comlynx_judge(const struct comlynx *r, u8 *lent, struct comlynx_heade
         return WRONG_START;
     if (s[6] != n - CL_HEADER - 2)
         return WRONG_SIZE;
-    if (fcs(s, n - 2) != (s[n - 2] | s[n - 1] << 8))
+    if (checksum(s, n - 2) != (s[n - 2] | s[n - 1] << 8))
         return WRONG_SUM;
     h->source = (u16)(s[2] << 8 | s[3]);
     h->destination = (u16)(s[4] << 8 | s[5]);
@@ -305,7 +305,7 @@ static int fronius_step(struct fronius *r, const u8 *piece, size n, u8 *lent, si
     return DONE;
 }
 
-/* ---- the host: as `pace` */
+/* ---- the host: as `pace_reading` */
 
 struct tally {
     size messages, damages, check;

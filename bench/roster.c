@@ -1,5 +1,5 @@
 /* Giving an address by the roster of document 01 in plain C, for the bench to measure beside: the same bytes, the same tests in the same
- * order, serials compared by memcmp, which the compiler makes a comparison of 16 bytes at once. Reads what `roster_pace` reads, and writes
+ * order, serials compared by memcmp, which the compiler makes a comparison of 16 bytes at once. Reads what `pace_giving` reads, and writes
  * what it writes. */
 #include "host.h"
 
@@ -66,7 +66,7 @@ static int give(u8 *roster, size n, const u8 *serial, size m)
     return (int)k + 1;
 }
 
-/* ---- the host: as `roster_pace` */
+/* ---- the host: as `pace_giving` */
 
 enum { INPUT = 65536 };
 

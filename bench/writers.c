@@ -1,4 +1,4 @@
-/* The writers of document 01 and the ComLynx checksum in plain C, for the bench to measure beside. Reads what `write_pace` reads, and
+/* The writers of document 01 and the ComLynx checksum in plain C, for the bench to measure beside. Reads what `pace_writing` reads, and
  * writes what it writes. */
 #include "host.h"
 
@@ -26,7 +26,7 @@ static struct written done(size length)
 enum { CL_HEADER = 8, CL_DATA = 255, CL_BODY = CL_HEADER + CL_DATA + 2 };
 enum { FLAG = 0x7e, ESCAPE = 0x7d };
 
-#include "fcs.h"
+#include "checksum.h"
 
 static int special(u8 b)
 {
@@ -49,7 +49,7 @@ static struct written comlynx_write(u16 source, u16 destination, u8 kind, const 
     body[6] = (u8)n;
     body[7] = kind;
     memcpy(body + CL_HEADER, data, n);
-    u16 sum = fcs(body, CL_HEADER + n);
+    u16 sum = checksum(body, CL_HEADER + n);
     body[CL_HEADER + n] = (u8)sum;
     body[CL_HEADER + n + 1] = (u8)(sum >> 8);
     for (size i = 0; i < len; i++)
@@ -124,7 +124,7 @@ static struct written fronius_write(u8 device, u8 number, u8 command, const u8 *
     return done(frame);
 }
 
-/* ---- the host: as `write_pace` */
+/* ---- the host: as `pace_writing` */
 
 enum { INPUT = 65536, LENT = 600 };
 

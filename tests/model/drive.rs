@@ -96,7 +96,7 @@ pub fn run(model: Model, arguments: impl Iterator<Item = String>) -> ExitCode {
 fn asked_for(model: Model, mut arguments: impl Iterator<Item = String>) -> Result<Run, String> {
     let mut run = Run {
         model,
-        probe: Program::of_environment("PROBE", "bin/probe"),
+        probe: Program::of_environment("PROBE", "bin/test_probe"),
         sbrlist: Program::of_environment("SBRLIST", "bin/sbrlist"),
         seed: 1,
         at_once: 2,

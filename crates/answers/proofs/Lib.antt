@@ -1,3 +1,3 @@
-pub mod Numbers
-pub mod Writing
+pub mod NumbersHaveCases
+pub mod WriterPromise
 pub mod One

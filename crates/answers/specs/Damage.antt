@@ -2,16 +2,16 @@
 use Prim.Native.Nat.{ℕ}
 use mathlib.Core.Path.{_≡_}
 use Rattle.answers.specs.declared.Damage.{Damage}
-use Rattle.answers.specs.declared.Damage.the-variants.{BrokenPair, WrongLength, WrongStart, WrongSize, WrongSum, WrongCount}
+use Rattle.answers.specs.declared.Damage.the-variants.{BrokenPair, WrongBodyLength, WrongStart, WrongSize, WrongSum, WrongLengthByte}
 
-abbrev pub told : Damage → ℕ
-told BrokenPair = 2
-told WrongLength = 3
-told WrongStart = 4
-told WrongSize = 5
-told WrongSum = 6
-told WrongCount = 7
+abbrev pub number : Damage → ℕ
+number BrokenPair = 2
+number WrongBodyLength = 3
+number WrongStart = 4
+number WrongSize = 5
+number WrongSum = 6
+number WrongLengthByte = 7
 
 -- what `Damage::number` promises
-abbrev pub IsDamage : Damage → ℕ → Type 0
-IsDamage what n = n ≡ told what
+abbrev pub IsDamageNumber : Damage → ℕ → Type 0
+IsDamageNumber what n = n ≡ number what

@@ -14,7 +14,7 @@ pub record Numbers {A : Type 0} (told : A → ℕ) (low high : ℕ) : Type 0 whe
   pub number : (n : ℕ) → low ≤ n → n ≤ high → told (back n) ≡ n
 
 abbrev pub Refusals : Type 0
-Refusals = Numbers Refusal.told 8 19
+Refusals = Numbers Refusal.number 8 19
 
 abbrev pub Damages : Type 0
-Damages = Numbers Damage.told 2 7
+Damages = Numbers Damage.number 2 7

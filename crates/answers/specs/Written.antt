@@ -22,8 +22,8 @@ lengthOf (Done length) = some length
 lengthOf (Refused why) = none
 
 -- what `Written::number` promises
-abbrev pub IsWritten : Written → ℕ → Type 0
-IsWritten w n = n ≡ number (told w)
+abbrev pub IsWrittenNumber : Written → ℕ → Type 0
+IsWrittenNumber w n = n ≡ number (told w)
 
 -- WRITERS TEST 8, THEN 9 (room below the exact written length): what is told, and the lent buffer afterwards.
 -- `tooLong` says of the data whether they are too long to write; `frame` is what is to be written

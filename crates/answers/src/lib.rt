@@ -1,7 +1,7 @@
 // The answer numbers of document 01 as types: what a call refuses, what a reader finds damaged, what a writer wrote.
-ghost use Rattle.answers.specs.Refusal.{IsRefusal};
-ghost use Rattle.answers.specs.Damage.{IsDamage};
-ghost use Rattle.answers.specs.Written.{IsWritten};
+ghost use Rattle.answers.specs.Refusal.{IsRefusalNumber};
+ghost use Rattle.answers.specs.Damage.{IsDamageNumber};
+ghost use Rattle.answers.specs.Written.{IsWrittenNumber};
 
 // Why a call refused. A case carries nothing, so that no two of them can be told alike.
 pub enum Refusal {
@@ -14,17 +14,17 @@ pub enum Refusal {
     // 11: a packet of another version
     WrongVersion,
     // 12: a packet's port or count
-    WrongPort,
+    WrongPortOrCount,
     // 13: a packet whose bytes are not all there
     BytesMissing,
     // 14: every address of the roster is used by others
     RosterFull,
     // 15: an exponent above 10
-    TooGreat,
+    ExponentTooHigh,
     // 16: an exponent below -3; an address that none may have, or that is free
-    OutOfRange,
+    WrongAddressOrExponentTooLow,
     // 17: of another kind, size or attempt than the call is for
-    Unfit,
+    NotForThisCall,
     // 18: a roster or a reader's state that breaks its own rules
     Spoilt,
     // 19: more input after the last packet that a listing takes
@@ -36,7 +36,7 @@ pub enum Damage {
     // 2: an escape that is followed by neither of its two bytes
     BrokenPair,
     // 3: a body of a length that no message has
-    WrongLength,
+    WrongBodyLength,
     // 4: a body that does not begin as every body does
     WrongStart,
     // 5: a size that is not that of the data
@@ -44,7 +44,7 @@ pub enum Damage {
     // 6: a checksum that does not agree
     WrongSum,
     // 7: a length that no message has
-    WrongCount,
+    WrongLengthByte,
 }
 
 // What a writer did with the buffer lent to it.
@@ -57,19 +57,19 @@ pub enum Written {
 
 impl Refusal {
     pub fn number(self) -> u8
-        ensures { λ n. ⌜ IsRefusal self n ⌝ }
+        ensures { λ n. ⌜ IsRefusalNumber self n ⌝ }
     {
         match self {
             Refusal::TooLong => 8,
             Refusal::NoRoom => 9,
             Refusal::WrongMark => 10,
             Refusal::WrongVersion => 11,
-            Refusal::WrongPort => 12,
+            Refusal::WrongPortOrCount => 12,
             Refusal::BytesMissing => 13,
             Refusal::RosterFull => 14,
-            Refusal::TooGreat => 15,
-            Refusal::OutOfRange => 16,
-            Refusal::Unfit => 17,
+            Refusal::ExponentTooHigh => 15,
+            Refusal::WrongAddressOrExponentTooLow => 16,
+            Refusal::NotForThisCall => 17,
             Refusal::Spoilt => 18,
             Refusal::TooManyPackets => 19,
         }
@@ -78,22 +78,22 @@ impl Refusal {
 
 impl Damage {
     pub fn number(self) -> u8
-        ensures { λ n. ⌜ IsDamage self n ⌝ }
+        ensures { λ n. ⌜ IsDamageNumber self n ⌝ }
     {
         match self {
             Damage::BrokenPair => 2,
-            Damage::WrongLength => 3,
+            Damage::WrongBodyLength => 3,
             Damage::WrongStart => 4,
             Damage::WrongSize => 5,
             Damage::WrongSum => 6,
-            Damage::WrongCount => 7,
+            Damage::WrongLengthByte => 7,
         }
     }
 }
 
 impl Written {
     pub fn number(self) -> u8
-        ensures { λ n. ⌜ IsWritten self n ⌝ }
+        ensures { λ n. ⌜ IsWrittenNumber self n ⌝ }
     {
         match self {
             Written::Done(_) => 0,

@@ -1,18 +1,18 @@
 -- All cases, each by computation.
 -- Assumes nothing.
 use mathlib.Core.Path.{refl}
-use Rattle.fcs.specs.Fcs.{folded, bitStep, bitSteps, entry, fcsNext, fcsFrom, fcsOf, sentAfter, sent, same, agrees}
+use Rattle.comlynx_checksum.specs.Fcs.{folded, bitStep, bitSteps, entry, fcsNext, fcsFrom, fcsOf, sentAfter, sent, same, agrees}
 use Rattle.comlynx.specs.Wire as ComLynxWire
 use Rattle.comlynx.specs.Rules as ComLynxRules
 use Rattle.eversolar_words.specs.Words as EversolarWords
 use Rattle.eversolar.specs.Wire as EversolarWire
 use Rattle.eversolar.specs.Rules as EversolarRules
-use Rattle.eversolar_values.specs.Energy as EversolarEnergy
-use Rattle.eversolar_values.specs.Waits as EversolarWaits
+use Rattle.eversolar_meaning.specs.Energy as EversolarEnergy
+use Rattle.eversolar_meaning.specs.Waits as EversolarWaits
 use Rattle.fronius.specs.Wire as FroniusWire
 use Rattle.fronius.specs.Rules as FroniusRules
-use Rattle.fronius_values.specs.Measured as Measured
-use Rattle.fronius_values.specs.Reading as Reading
+use Rattle.fronius_meaning.specs.Measured as Measured
+use Rattle.fronius_meaning.specs.Reading as Reading
 use Rattle.cases.specs.Cases.{AllHold}
 
 pub all-hold : AllHold

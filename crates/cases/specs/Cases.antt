@@ -9,39 +9,39 @@ use lib.IntN.{pos, negℤ}
 use lib.Ieee.{binary64, ofInt}
 use Rattle.answers.specs.Answer.{answer}
 use Rattle.stream.specs.Event.{Event, message, damage}
-use Rattle.stream.specs.Rule.{Placed}
-use Rattle.fcs.specs.Fcs.{fcsOf, sent}
+use Rattle.stream.specs.Rule.{Settled}
+use Rattle.comlynx_checksum.specs.Fcs.{fcsOf, sent}
 use Rattle.comlynx.specs.Wire as ComLynxWire
 use Rattle.comlynx.specs.Rules as ComLynxRules
 use Rattle.eversolar.specs.Wire as EversolarWire
 use Rattle.eversolar.specs.Rules as EversolarRules
 use Rattle.eversolar_requests.specs.Requests as EversolarRequests
-use Rattle.eversolar_values.specs.Energy as EversolarEnergy
-use Rattle.eversolar_values.specs.Waits as EversolarWaits
+use Rattle.eversolar_meaning.specs.Energy as EversolarEnergy
+use Rattle.eversolar_meaning.specs.Waits as EversolarWaits
 use Rattle.eversolar_requests.specs.declared.ToAll.the-variants.{OffLine}
 use Rattle.fronius.specs.Wire as FroniusWire
 use Rattle.fronius.specs.Rules as FroniusRules
-use Rattle.fronius_values.specs.Measured as Measured
-use Rattle.fronius_values.specs.Reading as Reading
-use Rattle.fronius_values.specs.declared.reading.Reading.the-variants.{Power}
+use Rattle.fronius_meaning.specs.Measured as Measured
+use Rattle.fronius_meaning.specs.Reading as Reading
+use Rattle.fronius_meaning.specs.declared.reading.Reading.the-variants.{Power}
 use Rattle.cases.specs.Case.{Case, case, Hold, inOrderFrom, hasAll}
 
 -- P1's message, the ping of L1; P4's, get version; P5's, a power
 abbrev pub ping : ComLynxWire.Message
-ping = record { source = 0x0002; destination = 0x11FF; kind = 0x15; bytes = [] }
+ping = record { source = 0x0002; destination = 0x11FF; kind = 0x15; payload = [] }
 
 abbrev pub allFlags : ComLynxWire.Message
-allFlags = record { source = 0x0002; destination = 0x11FF; kind = 0x15; bytes = replicate 255 0x7E }
+allFlags = record { source = 0x0002; destination = 0x11FF; kind = 0x15; payload = replicate 255 0x7E }
 
 abbrev pub getVersion : FroniusWire.Message
-getVersion = record { device = 0; number = 0; command = 0x01; bytes = [] }
+getVersion = record { device = 0; number = 0; command = 0x01; payload = [] }
 
 abbrev pub power : FroniusWire.Message
-power = record { device = 0x01; number = 0x01; command = 0x10; bytes = 0x04 ∷ 0xD2 ∷ 0x00 ∷ [] }
+power = record { device = 0x01; number = 0x01; command = 0x10; payload = 0x04 ∷ 0xD2 ∷ 0x00 ∷ [] }
 
 -- a rule gives this message, at its last byte, the nth
-abbrev pub reads : {M : Type 0} → M → ℕ → Option (Placed (Event M))
-reads m n = some (record { event = message m; place = n })
+abbrev pub reads : {M : Type 0} → M → ℕ → Option (Settled (Event M))
+reads m n = some (record { event = message m; used = n })
 
 abbrev pub cases : List Case
 cases =
@@ -58,7 +58,7 @@ cases =
     -- P3: off-line query, written and read; with its sum low byte first it is a damage
     ∷ case 3 (EversolarWire.wire (EversolarRequests.askAll OffLine)) (0xAA ∷ 0x55 ∷ 0x01 ∷ 0x00 ∷ 0x00 ∷ 0x00 ∷ 0x10 ∷ 0x00 ∷ 0x00 ∷ 0x01 ∷ 0x10 ∷ [])
     ∷ case 3 (EversolarRules.rule tt (0xAA ∷ 0x55 ∷ 0x01 ∷ 0x00 ∷ 0x00 ∷ 0x00 ∷ 0x10 ∷ 0x00 ∷ 0x00 ∷ 0x01 ∷ 0x10 ∷ [])) (reads (EversolarRequests.askAll OffLine) 11)
-    ∷ case 3 (EversolarRules.rule tt (0xAA ∷ 0x55 ∷ 0x01 ∷ 0x00 ∷ 0x00 ∷ 0x00 ∷ 0x10 ∷ 0x00 ∷ 0x00 ∷ 0x10 ∷ 0x01 ∷ [])) (some (record { event = damage 6; place = 11 }))
+    ∷ case 3 (EversolarRules.rule tt (0xAA ∷ 0x55 ∷ 0x01 ∷ 0x00 ∷ 0x00 ∷ 0x00 ∷ 0x10 ∷ 0x00 ∷ 0x00 ∷ 0x10 ∷ 0x01 ∷ [])) (some (record { event = damage 6; used = 11 }))
     -- data words are the same way round: 00 01 and 30 3B as items 20 and 21 are 77,883 tenths of a kWh
     ∷ case 3 (EversolarEnergy.energyOf 0x11 0x90 (replicate 40 0x00 ++ (0x00 ∷ 0x01 ∷ 0x30 ∷ 0x3B ∷ []))) (answer 0 (77_883 ∷ []))
     -- P4: get version, written and read
@@ -66,7 +66,7 @@ cases =
     ∷ case 4 (FroniusRules.rule tt (0x80 ∷ 0x80 ∷ 0x80 ∷ 0x00 ∷ 0x00 ∷ 0x00 ∷ 0x01 ∷ 0x01 ∷ [])) (reads getVersion 8)
     -- P5: the frame of a power, and what it reads: 1,234 W
     ∷ case 5 (FroniusRules.rule tt (0x80 ∷ 0x80 ∷ 0x80 ∷ 0x03 ∷ 0x01 ∷ 0x01 ∷ 0x10 ∷ 0x04 ∷ 0xD2 ∷ 0x00 ∷ 0xEB ∷ [])) (reads power 11)
-    ∷ case 5 (Reading.readingOf (power .device) (power .command) (power .bytes)) (Reading.tells 0 (some (Power (ofInt binary64 (pos 1_234)))))
+    ∷ case 5 (Reading.readingOf (power .device) (power .command) (power .payload)) (Reading.tells 0 (some (Power (ofInt binary64 (pos 1_234)))))
     -- P6: 1,234 thousandths
     ∷ case 6 (Measured.thousandthsOf (0x04 ∷ 0xD2 ∷ 0xFD ∷ []) false) (Measured.tells 0 (pos 1_234))
     -- P7: 655,350,000,000,000,000 thousandths, unsigned

@@ -2,7 +2,7 @@
 -- Assumes nothing.
 use Rattle.stream.proofs.Demands as Demands
 use Rattle.comlynx.specs.Demands.{comlynx, Accepts, ReadsBack, Handed, InPieces, UsedUp, Different, Kept, NeverSpoilt}
-use Rattle.comlynx.proofs.Facts.{facts}
+use Rattle.comlynx.proofs.FamilyFacts.{facts}
 
 pub accepts : Accepts
 accepts = Demands.accepts comlynx facts

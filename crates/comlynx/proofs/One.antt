@@ -6,17 +6,17 @@ use mathlib.Core.List.{List}
 use lib.ListN.{length}
 use lib.Dec.{ltb}
 use Rattle.answers.specs.declared.Written.{Written}
-use Rattle.answers.proofs.Writing.{writes-one}
+use Rattle.answers.proofs.WriterPromise.{writes-one}
 use Rattle.stream.specs.Call.{Seen}
-use Rattle.stream.proofs.Call.{steps-one}
-use Rattle.comlynx.specs.Wire.{dataMax, wire}
+use Rattle.stream.proofs.PromiseOfStep.{steps-one}
+use Rattle.comlynx.specs.Wire.{payloadMax, wire}
 use Rattle.comlynx.specs.Machine.{next}
 use Rattle.comlynx.specs.Reader.{inRange, header, shown, IsFresh, IsStep}
 use Rattle.comlynx.specs.Writer.{IsWritten}
 use Rattle.comlynx.specs.declared.reader.Reader.{Reader}
 use Rattle.comlynx.specs.declared.reader.Header.{Header}
 use Rattle.comlynx.specs.declared.reader.Step.{Step}
-use Rattle.comlynx.proofs.Judge.{told-alike}
+use Rattle.comlynx.proofs.JudgedIsDelivered.{told-alike}
 
 pub fresh-one : (r s : Reader) → IsFresh r → IsFresh s → r ≡ s
 fresh-one r s x y = x ∙ sym y
@@ -33,10 +33,10 @@ shown-alike q r e =
 
 pub step-one : (s : Reader) (piece lent a b : List ℕ) (q r : Step) → IsStep s piece lent q a → IsStep s piece lent r b → (q ≡ r) × (a ≡ b)
 step-one s piece lent a b q r x y =
-    let one = steps-one next inRange header (λ m. m .bytes) shown s piece lent a b q r x y in
+    let one = steps-one next inRange header (λ m. m .payload) shown s piece lent a b q r x y in
     (shown-alike q r (one .0), one .1)
 
-pub write-one : (source destination kind : ℕ) (bytes lent a b : List ℕ) (v w : Written) → IsWritten source destination kind bytes lent v a → IsWritten source destination kind bytes lent w b
+pub write-one : (source destination kind : ℕ) (payload lent a b : List ℕ) (v w : Written) → IsWritten source destination kind payload lent v a → IsWritten source destination kind payload lent w b
     → (v ≡ w) × (a ≡ b)
-write-one source destination kind bytes lent a b v w x y =
-    writes-one (ltb dataMax (length bytes)) (wire (record { source = source; destination = destination; kind = kind; bytes = bytes })) lent a b v w x y
+write-one source destination kind payload lent a b v w x y =
+    writes-one (ltb payloadMax (length payload)) (wire (record { source = source; destination = destination; kind = kind; payload = payload })) lent a b v w x y

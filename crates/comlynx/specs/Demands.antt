@@ -13,7 +13,7 @@ use Rattle.stream.specs.Event.{message}
 use Rattle.stream.specs.Call.{seenBy}
 use Rattle.stream.specs.Family.{Family}
 use Rattle.stream.specs.Demands as Demands
-use Rattle.comlynx.specs.Wire.{Message, Takes, dataMax, body, flag, escape, stuffed, wire}
+use Rattle.comlynx.specs.Wire.{Message, Takes, payloadMax, body, flag, escape, stuffed, wire}
 use Rattle.comlynx.specs.Rules.{judge, rule}
 use Rattle.comlynx.specs.Machine.{fresh}
 use Rattle.comlynx.specs.Reader.{join, shown, IsStep}
@@ -32,7 +32,7 @@ comlynx = record {
   afterEvent = true;
   rule = rule;
   Written = Written;
-  Writes = λ m. IsWritten (m .source) (m .destination) (m .kind) (m .bytes);
+  Writes = λ m. IsWritten (m .source) (m .destination) (m .kind) (m .payload);
   wrote = lengthOf;
   State = Reader;
   fresh = fresh;
@@ -80,7 +80,7 @@ Sound = (w : List ℕ) (m : Message) → Stretch w → T (areBytes w) → judge 
 abbrev pub ShownOnce : Type 0
 ShownOnce =
     (known : Bool) (w rest : List ℕ) → Stretch w → 0 < length w
-    → rule known (flag ∷ (w ++ (flag ∷ rest))) ≡ some (record { event = judge w; place = length w + 2 })
+    → rule known (flag ∷ (w ++ (flag ∷ rest))) ≡ some (record { event = judge w; used = length w + 2 })
 
 -- how many bytes stuffing adds
 abbrev pub special : List ℕ → ℕ
@@ -90,5 +90,5 @@ special (b ∷ bs) = cond (eqb b flag || eqb b escape) 1 0 + special bs
 -- the exact length of a frame, and 532 bytes always hold one
 abbrev pub Room : Type 0
 Room =
-    (m : Message) → length (m .bytes) ≤ dataMax
-    → (length (wire m) ≡ 12 + length (m .bytes) + special (body m)) × (length (wire m) ≤ 532)
+    (m : Message) → length (m .payload) ≤ payloadMax
+    → (length (wire m) ≡ 12 + length (m .payload) + special (body m)) × (length (wire m) ≤ 532)

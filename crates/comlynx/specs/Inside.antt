@@ -11,7 +11,7 @@ use Rattle.stream.specs.Event.{Event, damage}
 use Rattle.stream.specs.Event as Event
 use Rattle.stream.specs.Call.{retold}
 use Rattle.stream.specs.Pieces.{scan, scanFrom}
-use Rattle.comlynx.specs.Wire.{Message, dataMax, flag, escape, stuffed}
+use Rattle.comlynx.specs.Wire.{Message, payloadMax, flag, escape, stuffed}
 use Rattle.comlynx.specs.Rules.{judged}
 use Rattle.comlynx.specs.Machine.{bodyMax, inside, inRange, closed, next}
 use Rattle.comlynx.specs.Reader.{told, header}
@@ -56,7 +56,7 @@ due count low high held = eqb (getD held (count - 2) 0) low && eqb (getD held (c
 
 -- `judge`: the answer tells the event
 abbrev pub JudgedAs : Event Message → Answer → Type 0
-JudgedAs event answer = told answer ≡ retold header (Event.told (some event))
+JudgedAs event answer = told answer ≡ retold header (Event.outcome (some event))
 
 abbrev pub Judges : ℕ → ℕ → ℕ → List ℕ → Answer → Type 0
 Judges count low high held = JudgedAs (judged count (due count low high held) (take count held))
@@ -64,7 +64,7 @@ Judges count low high held = JudgedAs (judged count (due count low high held) (t
 -- a length that is told is one that a message has
 abbrev pub Small : Answer → Type 0
 Small Done = Unit {0}
-Small (Read h) = h .len ≤ dataMax
+Small (Read h) = h .len ≤ payloadMax
 Small (Damaged what) = Unit {0}
 Small (Refused why) = Unit {0}
 
@@ -83,4 +83,4 @@ Stuffs bytes at lent r later = (r ≡ at + length (stuffed bytes)) × (later ≡
 
 -- `put_frame`: flag, stuffed body, flag
 abbrev pub framed : List ℕ → List ℕ → List ℕ → List ℕ
-framed first bytes last = flag ∷ (stuffed ((first ++ bytes) ++ last) ++ (flag ∷ []))
+framed first payload last = flag ∷ (stuffed ((first ++ payload) ++ last) ++ (flag ∷ []))

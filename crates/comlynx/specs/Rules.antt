@@ -6,27 +6,27 @@ use mathlib.Core.Option.{Option, none, some}
 use mathlib.Core.List.{List, [], _∷_, _++_}
 use lib.ListN.{length, getD}
 use lib.Dec.{eqb, leb}
-use Rattle.fcs.specs.Fcs.{agrees}
+use Rattle.comlynx_checksum.specs.Fcs.{agrees}
 use Rattle.stream.specs.Event.{Event, message, damage}
-use Rattle.stream.specs.Rule.{Placed}
+use Rattle.stream.specs.Rule.{Settled}
 use Rattle.comlynx.specs.Wire.{Message, messageOf, flag, escape}
 
 -- ---- one whole stretch, the bytes between two successive flags
 
 -- b in front of the bytes, if there are any
-abbrev pub front : ℕ → Option (List ℕ) → Option (List ℕ)
-front b none = none
-front b (some bs) = some (b ∷ bs)
+abbrev pub withFirst : ℕ → Option (List ℕ) → Option (List ℕ)
+withFirst b none = none
+withFirst b (some bs) = some (b ∷ bs)
 
 -- the body that the bytes of a stretch stand for; none where a 7D is not followed inside the stretch by 5E or 5D.
 -- The first argument says whether a 7D stands right before the bytes
 abbrev pub unstuffed : Bool → List ℕ → Option (List ℕ)
 unstuffed false [] = some []
 unstuffed true [] = none
-unstuffed false (b ∷ bs) = cond (eqb b escape) (unstuffed true bs) (front b (unstuffed false bs))
+unstuffed false (b ∷ bs) = cond (eqb b escape) (unstuffed true bs) (withFirst b (unstuffed false bs))
 unstuffed true (b ∷ bs) =
-    cond (eqb b 0x5E) (front flag (unstuffed false bs))
-    (cond (eqb b 0x5D) (front escape (unstuffed false bs)) none)
+    cond (eqb b 0x5E) (withFirst flag (unstuffed false bs))
+    (cond (eqb b 0x5D) (withFirst escape (unstuffed false bs)) none)
 
 -- it has 10 to 265 bytes
 abbrev pub sized : ℕ → Bool
@@ -55,19 +55,19 @@ judge stretch = judgedBody (unstuffed false stretch)
 -- ---- one stretch after another, where `at` bytes were used before
 
 -- in a stretch of which `came` has come: the next flag closes it, and opens the one after it; an empty one gives nothing
-unfoldable pub within : ℕ → List ℕ → List ℕ → Option (Placed (Event Message))
+unfoldable pub within : ℕ → List ℕ → List ℕ → Option (Settled (Event Message))
 within at came [] = none
 within at came (b ∷ bs) =
     cond (eqb b flag)
-    (cond (eqb (length came) 0) (within (at + 1) [] bs) (some (record { event = judge came; place = at + 1 })))
+    (cond (eqb (length came) 0) (within (at + 1) [] bs) (some (record { event = judge came; used = at + 1 })))
     (within (at + 1) (came ++ (b ∷ [])) bs)
 
 -- bytes before the first flag are ignored
-unfoldable pub before : ℕ → List ℕ → Option (Placed (Event Message))
+unfoldable pub before : ℕ → List ℕ → Option (Settled (Event Message))
 before at [] = none
 before at (b ∷ bs) = cond (eqb b flag) (within (at + 1) [] bs) (before (at + 1) bs)
 
 -- THE RULE, by whether a flag was just seen: at the start none was; after an event its flag was
-abbrev pub rule : Bool → List ℕ → Option (Placed (Event Message))
+abbrev pub rule : Bool → List ℕ → Option (Settled (Event Message))
 rule false bs = before 0 bs
 rule true bs = within 0 [] bs

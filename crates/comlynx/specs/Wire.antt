@@ -5,36 +5,36 @@ use mathlib.Core.List.{List, [], _∷_, _++_}
 use lib.ListN.{length, take, drop, getD}
 use lib.Dec.{T, eqb}
 use lib.Pow.{areBytes}
-use Rattle.fcs.specs.Fcs.{sent}
+use Rattle.comlynx_checksum.specs.Fcs.{sent}
 
 pub record Message : Type 0 where
   pub source : ℕ
   pub destination : ℕ
   pub kind : ℕ
-  pub bytes : List ℕ
+  pub payload : List ℕ
 
 -- the data that a message has at most
-abbrev pub dataMax : ℕ
-dataMax = 255
+abbrev pub payloadMax : ℕ
+payloadMax = 255
 
 -- a message that the writer takes: source and destination of 16 bits, type and data bytes, 0 to 255 of them
 pub record Takes (m : Message) : Type 0 where
   pub source : m .source < 65536
   pub destination : m .destination < 65536
   pub kind : m .kind < 256
-  pub bytes : T (areBytes (m .bytes))
-  pub fits : length (m .bytes) ≤ dataMax
+  pub payload : T (areBytes (m .payload))
+  pub fits : length (m .payload) ≤ payloadMax
 
 -- ---- the body: FF 03, source high byte first, destination likewise, size, type, data, checksum low byte first
 
 -- all that stands before the data; size counts the data
-abbrev pub head : ℕ → ℕ → ℕ → ℕ → List ℕ
-head source destination size kind =
+abbrev pub lead : ℕ → ℕ → ℕ → ℕ → List ℕ
+lead source destination size kind =
     0xFF ∷ 0x03 ∷ source / 256 ∷ source % 256 ∷ destination / 256 ∷ destination % 256 ∷ size ∷ kind ∷ []
 
 -- FF through the last data byte, which the checksum takes
 abbrev pub covered : Message → List ℕ
-covered m = head (m .source) (m .destination) (length (m .bytes)) (m .kind) ++ m .bytes
+covered m = lead (m .source) (m .destination) (length (m .payload)) (m .kind) ++ m .payload
 
 unfoldable pub body : Message → List ℕ
 body m = covered m ++ sent (covered m)
@@ -46,7 +46,7 @@ messageOf bs =
       source = getD bs 2 0 * 256 + getD bs 3 0;
       destination = getD bs 4 0 * 256 + getD bs 5 0;
       kind = getD bs 7 0;
-      bytes = take (length bs - 10) (drop 8 bs);
+      payload = take (length bs - 10) (drop 8 bs);
     }
 
 -- ---- stuffing: 7E becomes 7D 5E, 7D becomes 7D 5D, nothing else changes

@@ -5,10 +5,10 @@ use lib.ListN.{length}
 use lib.Dec.{ltb}
 use Rattle.answers.specs.Written.{Writes}
 use Rattle.answers.specs.declared.Written.{Written}
-use Rattle.comlynx.specs.Wire.{dataMax, wire}
+use Rattle.comlynx.specs.Wire.{payloadMax, wire}
 
 -- what `write` promises of source, destination, type and data, the lent buffer, its result and the buffer afterwards:
 -- 8, then 9, then the bytes of the frame
 abbrev pub IsWritten : ℕ → ℕ → ℕ → List ℕ → List ℕ → Written → List ℕ → Type 0
-IsWritten source destination kind bytes =
-    Writes (ltb dataMax (length bytes)) (wire (record { source = source; destination = destination; kind = kind; bytes = bytes }))
+IsWritten source destination kind payload =
+    Writes (ltb payloadMax (length payload)) (wire (record { source = source; destination = destination; kind = kind; payload = payload }))

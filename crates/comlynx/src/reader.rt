@@ -14,12 +14,12 @@ ghost use Rattle.comlynx.specs.Inside.{AllPlain, Filled, Runs, due, Judg
 // The limits, named here because the reader's own constants cannot size its own array.
 const HEADER: usize = 8;
 
-const DATA: usize = 255;
+const PAYLOAD: usize = 255;
 
 // The checksum's two bytes.
 const SUM: usize = 2;
 
-const BODY: usize = HEADER + DATA + SUM;
+const BODY: usize = HEADER + PAYLOAD + SUM;
 
 // What the bytes read so far have led to. A field that the stage does not use is 0; what `held` has beyond `count` is left over and means nothing.
 pub struct Reader {
@@ -379,7 +379,7 @@ fn judge(count: usize, low: u8, high: u8, held: &[u8]) -> Answer
     ensures { λ r. ⌜ Judges count low high (now (held .entry)) r ⌝ }
 {
     if !sized(count) {
-        return Answer::Damaged(Damage::WrongLength);
+        return Answer::Damaged(Damage::WrongBodyLength);
     }
     if !begins(held) {
         return Answer::Damaged(Damage::WrongStart);
@@ -430,7 +430,7 @@ impl Reader {
     // FF 03, source, destination, size, type
     pub const HEADER: usize = HEADER;
     // the data that a message has at most
-    pub const DATA: usize = DATA;
+    pub const PAYLOAD: usize = PAYLOAD;
     // both with the checksum: what a reader holds
     pub const BODY: usize = BODY;
     // what a host lends at least, whatever the family
@@ -478,8 +478,8 @@ impl Reader {
                     }
                 }
                 End::Closed(n) => {
-                    let sum = fcs::of_first(&self.held, covered(n));
-                    let due = fcs::sent_of(sum);
+                    let sum = comlynx_checksum::of_first(&self.held, covered(n));
+                    let due = comlynx_checksum::sent_of(sum);
                     let answer = judge(n, due.low, due.high, &self.held);
                     deliver(answer, &self.held, lent);
                     Step {

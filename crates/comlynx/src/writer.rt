@@ -13,13 +13,13 @@ ghost use mathlib.Core.Path.{_≡_};
 ghost use mathlib.Core.List.{[], _∷_};
 ghost use lib.ListN.{length};
 ghost use lib.Seq.{sets};
-ghost use Rattle.comlynx.specs.Wire.{dataMax, head, stuffed};
+ghost use Rattle.comlynx.specs.Wire.{payloadMax, lead, stuffed};
 ghost use Rattle.comlynx.specs.Writer.{IsWritten};
 ghost use Rattle.comlynx.specs.Inside.{Stuffs, framed};
 
 // All that stands before the data.
-fn head_of(source: u16, destination: u16, size: u8, kind: u8) -> [u8; Reader::HEADER]
-    ensures { λ r. ⌜ r ≡ head source destination size kind ⌝ }
+fn lead_of(source: u16, destination: u16, size: u8, kind: u8) -> [u8; Reader::HEADER]
+    ensures { λ r. ⌜ r ≡ lead source destination size kind ⌝ }
 {
     let from_high = (source / 256) as u8;
     let from_low = (source % 256) as u8;
@@ -46,7 +46,7 @@ fn width(b: u8) -> u16
 
 // How many bytes a body's part takes, stuffed. Counted in 16 bits, so that eight bytes are looked at together.
 fn stuffed_len(s: &[u8]) -> usize
-    requires { ⌜ length (now s) ≤ dataMax ⌝ }
+    requires { ⌜ length (now s) ≤ payloadMax ⌝ }
     ensures { λ r. ⌜ (r ≡ length (stuffed (now (s .entry)))) × (r ≤ 510) ⌝ }
 {
     let mut n: u16 = 0;
@@ -82,45 +82,45 @@ fn put_stuffed(s: &[u8], lent: &mut [u8], at: usize) -> usize
     requires { ⌜ at + length (stuffed (now s)) ≤ length (now lent) ⌝ }
     ensures { λ r. ⌜ Stuffs (now (s .entry)) at (now (lent .entry)) r (now (lent .exit)) ⌝ }
 {
-    let mut place = at;
+    let mut to = at;
     let mut i: usize = 0;
     while i < s.len() {
-        place = put(s[i], lent, place);
+        to = put(s[i], lent, to);
         i += 1;
     }
-    place
+    to
 }
 
 // Stores a frame: flag, the body's three parts stuffed, flag.
-fn put_frame(first: &[u8], bytes: &[u8], last: &[u8], lent: &mut [u8])
-    requires { ⌜ length (framed (now first) (now bytes) (now last)) ≤ length (now lent) ⌝ }
-    ensures { λ _. ⌜ now (lent .exit) ≡ sets (now (lent .entry)) 0 (framed (now (first .entry)) (now (bytes .entry)) (now (last .entry))) ⌝ }
+fn put_frame(first: &[u8], payload: &[u8], last: &[u8], lent: &mut [u8])
+    requires { ⌜ length (framed (now first) (now payload) (now last)) ≤ length (now lent) ⌝ }
+    ensures { λ _. ⌜ now (lent .exit) ≡ sets (now (lent .entry)) 0 (framed (now (first .entry)) (now (payload .entry)) (now (last .entry))) ⌝ }
 {
     lent[0] = FLAG;
     let a = put_stuffed(first, lent, 1);
-    let b = put_stuffed(bytes, lent, a);
+    let b = put_stuffed(payload, lent, a);
     let c = put_stuffed(last, lent, b);
     lent[c] = FLAG;
 }
 
 // Writes a message at the front of `lent`. Nothing is stored before both tests have held. The checksum is asked for here; its own bytes may take
 // stuffing too, so it comes before the test of the room.
-pub fn write(source: u16, destination: u16, kind: u8, data: &[u8], lent: &mut [u8]) -> Written
-    ensures { λ w. ⌜ IsWritten source destination kind (now («data» .entry)) (now (lent .entry)) w (now (lent .exit)) ⌝ }
+pub fn write(source: u16, destination: u16, kind: u8, payload: &[u8], lent: &mut [u8]) -> Written
+    ensures { λ w. ⌜ IsWritten source destination kind (now (payload .entry)) (now (lent .entry)) w (now (lent .exit)) ⌝ }
 {
-    let n = data.len();
-    if Reader::DATA < n {
+    let n = payload.len();
+    if Reader::PAYLOAD < n {
         return Written::Refused(Refusal::TooLong);
     }
-    let first = head_of(source, destination, n as u8, kind);
-    let sum = fcs::more(fcs::of(&first), data);
-    let due = fcs::sent_of(sum);
+    let first = lead_of(source, destination, n as u8, kind);
+    let sum = comlynx_checksum::more(comlynx_checksum::of(&first), payload);
+    let due = comlynx_checksum::sent_of(sum);
     let last = [due.low, due.high];
-    let body = stuffed_len(&first) + stuffed_len(data) + stuffed_len(&last);
+    let body = stuffed_len(&first) + stuffed_len(payload) + stuffed_len(&last);
     let length = body + 2;
     if lent.len() < length {
         return Written::Refused(Refusal::NoRoom);
     }
-    put_frame(&first, data, &last, lent);
+    put_frame(&first, payload, &last, lent);
     Written::Done(length)
 }

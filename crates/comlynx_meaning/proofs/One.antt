@@ -6,7 +6,7 @@ use mathlib.Core.Option.{none, some}
 use mathlib.Core.List.{List}
 use native.Mathlib.Omega.{arith}
 use Rattle.answers.specs.Refusal as Refusal
-use Rattle.answers.proofs.Numbers.{refusals, refusal-alike, refusal-above}
+use Rattle.answers.proofs.NumbersHaveCases.{refusals, refusal-alike, refusal-above}
 use Rattle.comlynx_meaning.specs.Meaning as Meaning
 use Rattle.comlynx_meaning.specs.Meaning.{request, reply, transmissionError, applicationError, toldWord, IsMeaning, IsAddress, IsWord}
 use Rattle.comlynx_meaning.specs.declared.Meaning.{Meaning}
@@ -30,8 +30,8 @@ said-told (TransmissionError id code) = refl
 said-told (ApplicationError id code) = refl
 said-told (Unmeant why) = ap Unmeant (refusals .case why)
 
-pub meaning-of-one : (kind : ℕ) (bytes : List ℕ) (a b : Meaning) → IsMeaning kind bytes a → IsMeaning kind bytes b → a ≡ b
-meaning-of-one kind bytes a b x y = sym (said-told a) ∙ ap said (x ∙ sym y) ∙ said-told b
+pub meaning-of-one : (kind : ℕ) (payload : List ℕ) (a b : Meaning) → IsMeaning kind payload a → IsMeaning kind payload b → a ≡ b
+meaning-of-one kind payload a b x y = sym (said-told a) ∙ ap said (x ∙ sym y) ∙ said-told b
 
 pub address-of-one : (word : ℕ) (a b : Address) → IsAddress word a → IsAddress word b → a ≡ b
 address-of-one word a b x y = x ∙ sym y
@@ -39,13 +39,13 @@ address-of-one word a b x y = x ∙ sym y
 words-alike : (a b : Addressed) → toldWord a ≡ toldWord b → a ≡ b
 words-alike (Word s) (Word t) e = cc
 words-alike (Word s) (NoWord why) e =
-    let zero-told : 0 ≡ Refusal.told why = cc in
+    let zero-told : 0 ≡ Refusal.number why = cc in
     absurd (omega (arith, refusal-above why))
 words-alike (NoWord why) (Word t) e =
-    let zero-told : Refusal.told why ≡ 0 = cc in
+    let zero-told : Refusal.number why ≡ 0 = cc in
     absurd (omega (arith, refusal-above why))
 words-alike (NoWord why) (NoWord other) e =
-    let same : Refusal.told why ≡ Refusal.told other = cc in
+    let same : Refusal.number why ≡ Refusal.number other = cc in
     ap NoWord (refusal-alike why other same)
 
 pub word-of-one : (a : Address) (v w : Addressed) → IsWord a v → IsWord a w → v ≡ w

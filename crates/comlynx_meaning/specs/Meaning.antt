@@ -9,7 +9,7 @@ use lib.Dec.{eqb, leb}
 use Rattle.answers.specs.Answer.{Answer, answer}
 use Rattle.answers.specs.Refusal as Refusal
 use Rattle.answers.specs.declared.Refusal.{Refusal}
-use Rattle.answers.specs.declared.Refusal.the-variants.{OutOfRange, Unfit}
+use Rattle.answers.specs.declared.Refusal.the-variants.{WrongAddressOrExponentTooLow, NotForThisCall}
 use Rattle.comlynx_meaning.specs.declared.Meaning.{Meaning}
 use Rattle.comlynx_meaning.specs.declared.Meaning.the-variants.{Request, Reply, TransmissionError, ApplicationError, Refused}
 use Rattle.comlynx_meaning.specs.declared.Address.{Address}
@@ -44,7 +44,7 @@ pub data Told : Type 0 where
   tells : ℕ → Option Said → Told
 
 abbrev pub refused : Refusal → Told
-refused why = tells (Refusal.told why) none
+refused why = tells (Refusal.number why) none
 
 abbrev pub told : Meaning → Told
 told (Request id) = tells 0 (some (request id))
@@ -55,16 +55,16 @@ told (Refused why) = refused why
 
 -- an error reply has one data byte, its code, else 17
 abbrev pub coded : (ℕ → Said) → List ℕ → Told
-coded error bs = cond (eqb (length bs) 1) (tells 0 (some (error (getD bs 0 0)))) (refused Unfit)
+coded error bs = cond (eqb (length bs) 1) (tells 0 (some (error (getD bs 0 0)))) (refused NotForThisCall)
 
 -- and 17 for both error bits, or for one in a request
 unfoldable pub meant : ℕ → List ℕ → Told
 meant kind bs =
     cond (isReply kind)
     (cond (isTransmission kind)
-    (cond (isApplication kind) (refused Unfit) (coded (transmissionError (idOf kind)) bs))
+    (cond (isApplication kind) (refused NotForThisCall) (coded (transmissionError (idOf kind)) bs))
     (cond (isApplication kind) (coded (applicationError (idOf kind)) bs) (tells 0 (some (reply (idOf kind))))))
-    (cond (isTransmission kind || isApplication kind) (refused Unfit) (tells 0 (some (request (idOf kind)))))
+    (cond (isTransmission kind || isApplication kind) (refused NotForThisCall) (tells 0 (some (request (idOf kind)))))
 
 -- what `meaning_of` promises
 abbrev pub IsMeaning : ℕ → List ℕ → Meaning → Type 0
@@ -88,7 +88,7 @@ unfoldable pub wordOf : Address → Answer
 wordOf a =
     cond (leb (a .network) 15 && leb (a .subnet) 15)
     (answer 0 ((a .network * 4096 + a .subnet * 256 + a .node) ∷ []))
-    (Refusal.refused 1 OutOfRange)
+    (Refusal.refused 1 WrongAddressOrExponentTooLow)
 
 -- what `word_of` promises
 abbrev pub IsWord : Address → Addressed → Type 0

@@ -17,13 +17,13 @@ pub enum Meaning {
 }
 
 // An error reply: its code is its one data byte.
-fn error_of(transmission: bool, id: u8, data: &[u8]) -> Meaning
-    ensures { λ r. ⌜ told r ≡ coded (cond transmission (transmissionError id) (applicationError id)) (now («data» .entry)) ⌝ }
+fn error_of(transmission: bool, id: u8, payload: &[u8]) -> Meaning
+    ensures { λ r. ⌜ told r ≡ coded (cond transmission (transmissionError id) (applicationError id)) (now (payload .entry)) ⌝ }
 {
-    if data.len() != 1 {
-        return Meaning::Refused(Refusal::Unfit);
+    if payload.len() != 1 {
+        return Meaning::Refused(Refusal::NotForThisCall);
     }
-    let code = data[0];
+    let code = payload[0];
     if transmission {
         return Meaning::TransmissionError(id, code);
     }
@@ -31,8 +31,8 @@ fn error_of(transmission: bool, id: u8, data: &[u8]) -> Meaning
 }
 
 // The meaning of any type byte with any data.
-pub fn meaning_of(kind: u8, data: &[u8]) -> Meaning
-    ensures { λ r. ⌜ IsMeaning kind (now («data» .entry)) r ⌝ }
+pub fn meaning_of(kind: u8, payload: &[u8]) -> Meaning
+    ensures { λ r. ⌜ IsMeaning kind (now (payload .entry)) r ⌝ }
 {
     let id = kind % 32;
     // bits 7, 6 and 5
@@ -42,10 +42,10 @@ pub fn meaning_of(kind: u8, data: &[u8]) -> Meaning
     let error = transmission | application;
     let both = transmission & application;
     if both | (error & !reply) {
-        return Meaning::Refused(Refusal::Unfit);
+        return Meaning::Refused(Refusal::NotForThisCall);
     }
     if error {
-        return error_of(transmission, id, data);
+        return error_of(transmission, id, payload);
     }
     if reply {
         return Meaning::Reply(id);
@@ -105,5 +105,5 @@ pub fn word_of(a: Address) -> Addressed
     if fits(network, subnet) {
         return Addressed::Word(join(network, subnet, node));
     }
-    Addressed::Refused(Refusal::OutOfRange)
+    Addressed::Refused(Refusal::WrongAddressOrExponentTooLow)
 }

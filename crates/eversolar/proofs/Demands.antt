@@ -2,7 +2,7 @@
 -- Assumes nothing.
 use Rattle.stream.proofs.Demands as Demands
 use Rattle.eversolar.specs.Demands.{eversolar, Accepts, ReadsBack, Handed, InPieces, UsedUp, Different, Kept, NeverSpoilt}
-use Rattle.eversolar.proofs.Facts.{facts}
+use Rattle.eversolar.proofs.FamilyFacts.{facts}
 
 pub accepts : Accepts
 accepts = Demands.accepts eversolar facts

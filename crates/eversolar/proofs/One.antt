@@ -6,17 +6,17 @@ use mathlib.Core.List.{List}
 use lib.ListN.{length}
 use lib.Dec.{ltb}
 use Rattle.answers.specs.declared.Written.{Written}
-use Rattle.answers.proofs.Writing.{writes-one}
+use Rattle.answers.proofs.WriterPromise.{writes-one}
 use Rattle.stream.specs.Call.{Seen}
-use Rattle.stream.proofs.Call.{steps-one}
-use Rattle.eversolar.specs.Wire.{Message, dataMax, wire}
+use Rattle.stream.proofs.PromiseOfStep.{steps-one}
+use Rattle.eversolar.specs.Wire.{Message, payloadMax, wire}
 use Rattle.eversolar.specs.Machine.{next}
 use Rattle.eversolar.specs.Reader.{inRange, header, shown, IsFresh, IsStep}
 use Rattle.eversolar.specs.Writer.{IsWritten}
 use Rattle.eversolar.specs.declared.reader.Reader.{Reader}
 use Rattle.eversolar.specs.declared.reader.Header.{Header}
 use Rattle.eversolar.specs.declared.reader.Step.{Step}
-use Rattle.eversolar.proofs.Judge.{told-alike}
+use Rattle.eversolar.proofs.JudgedIsDelivered.{told-alike}
 
 pub fresh-one : (r s : Reader) → IsFresh r → IsFresh s → r ≡ s
 fresh-one r s x y = x ∙ sym y
@@ -33,12 +33,12 @@ shown-alike q r e =
 
 pub step-one : (s : Reader) (piece lent a b : List ℕ) (q r : Step) → IsStep s piece lent q a → IsStep s piece lent r b → (q ≡ r) × (a ≡ b)
 step-one s piece lent a b q r x y =
-    let one = steps-one next inRange header (λ m. m .bytes) shown s piece lent a b q r x y in
+    let one = steps-one next inRange header (λ m. m .payload) shown s piece lent a b q r x y in
     (shown-alike q r (one .0), one .1)
 
-pub write-one : (sourceFirst sourceSecond destinationFirst destinationSecond control function : ℕ) (bytes lent a b : List ℕ) (v w : Written)
-    → IsWritten sourceFirst sourceSecond destinationFirst destinationSecond control function bytes lent v a
-    → IsWritten sourceFirst sourceSecond destinationFirst destinationSecond control function bytes lent w b → (v ≡ w) × (a ≡ b)
-write-one sourceFirst sourceSecond destinationFirst destinationSecond control function bytes lent a b v w x y =
-    let m : Message = record { sourceFirst = sourceFirst; sourceSecond = sourceSecond; destinationFirst = destinationFirst; destinationSecond = destinationSecond; control = control; function = function; bytes = bytes } in
-    writes-one (ltb dataMax (length bytes)) (wire m) lent a b v w x y
+pub write-one : (sourceFirst sourceSecond destinationFirst destinationSecond control function : ℕ) (payload lent a b : List ℕ) (v w : Written)
+    → IsWritten sourceFirst sourceSecond destinationFirst destinationSecond control function payload lent v a
+    → IsWritten sourceFirst sourceSecond destinationFirst destinationSecond control function payload lent w b → (v ≡ w) × (a ≡ b)
+write-one sourceFirst sourceSecond destinationFirst destinationSecond control function payload lent a b v w x y =
+    let m : Message = record { sourceFirst = sourceFirst; sourceSecond = sourceSecond; destinationFirst = destinationFirst; destinationSecond = destinationSecond; control = control; function = function; payload = payload } in
+    writes-one (ltb payloadMax (length payload)) (wire m) lent a b v w x y

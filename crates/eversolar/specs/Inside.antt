@@ -10,19 +10,19 @@ use Rattle.stream.specs.Event as Event
 use Rattle.stream.specs.Call.{retold}
 use Rattle.stream.specs.Pieces.{scan, scanFrom}
 use Rattle.eversolar_words.specs.Words.{word}
-use Rattle.eversolar.specs.Wire.{Message, dataMax, judged}
+use Rattle.eversolar.specs.Wire.{Message, payloadMax, judged}
 use Rattle.eversolar.specs.Machine.{holding, inRange, most, next}
 use Rattle.eversolar.specs.Reader.{told, header}
 use Rattle.eversolar.specs.declared.reader.Answer.{Answer}
 use Rattle.eversolar.specs.declared.reader.Answer.the-variants.{Done, Message as Read, Damaged, Refused}
 use Rattle.eversolar.specs.declared.reader.Ran.{Ran}
-use Rattle.eversolar.specs.declared.reader.Place.{Place}
-use Rattle.eversolar.specs.declared.reader.Place.the-variants.{Found, End as AtEnd}
+use Rattle.eversolar.specs.declared.reader.HuntEnd.{HuntEnd}
+use Rattle.eversolar.specs.declared.reader.HuntEnd.the-variants.{Found, End as AtEnd}
 use Rattle.eversolar.specs.declared.reader.End.{End}
 use Rattle.eversolar.specs.declared.reader.End.the-variants.{UsedUp, Closed}
 
 -- `hunt`: the call goes on behind AA 55, in the head; or there is none up to the end of the piece
-abbrev pub Hunted : List ℕ → ℕ → ℕ → Place → Type 0
+abbrev pub Hunted : List ℕ → ℕ → ℕ → HuntEnd → Type 0
 Hunted piece i stage (Found j) =
     (i < j) × (j ≤ length piece) × ((len count : ℕ) (held : List ℕ) → scanFrom next (holding stage len count held) piece i ≡ scanFrom next (holding 2 len count held) piece j)
 Hunted piece i stage (AtEnd later) =
@@ -49,7 +49,7 @@ eventOf (Closed len last) held = judgedFrame len last held
 -- a length that was read is one that a message has
 abbrev pub Fits : End → Type 0
 Fits UsedUp = Unit {0}
-Fits (Closed len last) = len ≤ dataMax
+Fits (Closed len last) = len ≤ payloadMax
 
 -- `run_in`: the scan of the piece, which ends in a state in range
 pub record Runs (stage count len : ℕ) (held piece : List ℕ) (r : Ran) (later : List ℕ) : Type 0 where
@@ -62,12 +62,12 @@ pub record Runs (stage count len : ℕ) (held piece : List ℕ) (r : Ran) (later
 
 -- `judge`: the answer tells the event
 abbrev pub JudgedAs : Option (Event Message) → Answer → Type 0
-JudgedAs event answer = told answer ≡ retold header (Event.told event)
+JudgedAs event answer = told answer ≡ retold header (Event.outcome event)
 
 -- a length that is told is one that a message has
 abbrev pub Small : Answer → Type 0
 Small Done = Unit {0}
-Small (Read h) = h .len ≤ dataMax
+Small (Read h) = h .len ≤ payloadMax
 Small (Damaged what) = Unit {0}
 Small (Refused why) = Unit {0}
 

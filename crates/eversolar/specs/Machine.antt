@@ -8,7 +8,7 @@ use lib.Dec.{eqb, ltb, leb}
 use Rattle.stream.specs.Event.{Event}
 use Rattle.stream.specs.Pieces.{Moved}
 use Rattle.eversolar_words.specs.Words.{word}
-use Rattle.eversolar.specs.Wire.{Message, dataMax, firstMark, secondMark, judged}
+use Rattle.eversolar.specs.Wire.{Message, payloadMax, firstMark, secondMark, judged}
 use Rattle.eversolar.specs.declared.reader.Reader.{Reader}
 use Rattle.eversolar.specs.declared.reader.Move.{Move}
 use Rattle.eversolar.specs.declared.reader.Move.the-variants.{Keep, Size, Close}
@@ -24,7 +24,7 @@ holding stage len count held = record { held = held; stage = stage; count = coun
 
 -- six bytes, N, the data and the checksum's first byte: what a reader holds
 abbrev pub bodyMax : ℕ
-bodyMax = 8 + dataMax
+bodyMax = 8 + payloadMax
 
 abbrev pub fresh : Reader
 fresh = looking 0 (replicate bodyMax 0)
@@ -34,7 +34,7 @@ unfoldable pub inRange : ℕ → ℕ → ℕ → Bool
 inRange stage count len =
     cond (ltb stage 2) (cond (eqb count 0) (eqb len 0) false)
     (cond (eqb stage 2) (cond (leb count 6) (eqb len 0) false)
-    (cond (eqb stage 3) (cond (leb len dataMax) (cond (leb 7 count) (leb count (8 + len)) false) false) false))
+    (cond (eqb stage 3) (cond (leb len payloadMax) (cond (leb 7 count) (leb count (8 + len)) false) false) false))
 
 -- looking: the stage after a byte b
 unfoldable pub lookedOf : ℕ → ℕ → ℕ

@@ -20,8 +20,8 @@ use Rattle.eversolar.specs.declared.reader.Answer.the-variants.{Done, Me
 abbrev pub told : Answer → Told Header
 told Done = done
 told (Read h) = gives (message h)
-told (Damaged what) = gives (damage (Damage.told what))
-told (Refused why) = refuses (Refusal.told why)
+told (Damaged what) = gives (damage (Damage.number what))
+told (Refused why) = refuses (Refusal.number why)
 
 abbrev pub shown : Step → Seen Reader Header
 shown r = record { state = r .reader; told = told (r .answer); used = r .used }
@@ -35,7 +35,7 @@ header m = record {
   «destination_second» = m .destinationSecond;
   control = m .control;
   function = m .function;
-  len = length (m .bytes);
+  len = length (m .payload);
 }
 
 abbrev pub join : Header → List ℕ → Message
@@ -46,7 +46,7 @@ join h later = record {
   destinationSecond = h .«destination_second»;
   control = h .control;
   function = h .function;
-  bytes = take (h .len) later;
+  payload = take (h .len) later;
 }
 
 -- stage, held count and held data length lie in that stage's range
@@ -59,4 +59,4 @@ IsFresh r = r ≡ Machine.fresh
 
 -- what `Reader::step` promises, of state, piece, lent buffer, result and the buffer afterwards
 abbrev pub IsStep : Reader → List ℕ → List ℕ → Step → List ℕ → Type 0
-IsStep = Steps Machine.next inRange header (λ m. m .bytes) shown
+IsStep = Steps Machine.next inRange header (λ m. m .payload) shown

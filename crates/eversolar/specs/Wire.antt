@@ -16,11 +16,11 @@ pub record Message : Type 0 where
   pub destinationSecond : ℕ
   pub control : ℕ
   pub function : ℕ
-  pub bytes : List ℕ
+  pub payload : List ℕ
 
 -- 0 to 255 data bytes
-abbrev pub dataMax : ℕ
-dataMax = 255
+abbrev pub payloadMax : ℕ
+payloadMax = 255
 
 -- a message that the writer takes: all its parts are bytes, and its data are not too long
 pub record Takes (m : Message) : Type 0 where
@@ -30,8 +30,8 @@ pub record Takes (m : Message) : Type 0 where
   pub destinationSecond : m .destinationSecond < 256
   pub control : m .control < 256
   pub function : m .function < 256
-  pub bytes : T (areBytes (m .bytes))
-  pub fits : length (m .bytes) ≤ dataMax
+  pub payload : T (areBytes (m .payload))
+  pub fits : length (m .payload) ≤ payloadMax
 
 -- the two bytes that open a frame
 abbrev pub firstMark : ℕ
@@ -41,12 +41,12 @@ abbrev pub secondMark : ℕ
 secondMark = 0x55
 
 -- source, destination, control, function
-abbrev pub head : Message → List ℕ
-head m = m .sourceFirst ∷ m .sourceSecond ∷ m .destinationFirst ∷ m .destinationSecond ∷ m .control ∷ m .function ∷ []
+abbrev pub sixOf : Message → List ℕ
+sixOf m = m .sourceFirst ∷ m .sourceSecond ∷ m .destinationFirst ∷ m .destinationSecond ∷ m .control ∷ m .function ∷ []
 
 -- all bytes before the checksum: AA 55, these six, length N, the data
-abbrev pub front : List ℕ → ℕ → List ℕ → List ℕ
-front six n bytes = firstMark ∷ secondMark ∷ (six ++ (n ∷ bytes))
+abbrev pub earlierOf : List ℕ → ℕ → List ℕ → List ℕ
+earlierOf six n payload = firstMark ∷ secondMark ∷ (six ++ (n ∷ payload))
 
 -- the checksum is the sum of all earlier bytes, AA 55 included, modulo 65,536
 abbrev pub total : List ℕ → ℕ
@@ -57,23 +57,23 @@ unfoldable pub checksum : List ℕ → ℕ
 checksum bs = total bs % 65536
 
 abbrev pub earlier : Message → List ℕ
-earlier m = front (head m) (length (m .bytes)) (m .bytes)
+earlier m = earlierOf (sixOf m) (length (m .payload)) (m .payload)
 
 abbrev pub wire : Message → List ℕ
 wire m = earlier m ++ wordBytes (checksum (earlier m))
 
 -- the message of six bytes before the length, and data
 abbrev pub messageOf : List ℕ → List ℕ → Message
-messageOf six bytes = record {
+messageOf six payload = record {
   sourceFirst = getD six 0 0;
   sourceSecond = getD six 1 0;
   destinationFirst = getD six 2 0;
   destinationSecond = getD six 3 0;
   control = getD six 4 0;
   function = getD six 5 0;
-  bytes = bytes;
+  payload = payload;
 }
 
 -- what a frame comes to, by the six bytes, N, the data and the checksum that came: a wrong sum is 6
 unfoldable pub judged : List ℕ → ℕ → List ℕ → ℕ → Event Message
-judged six n bytes sum = cond (eqb sum (checksum (front six n bytes))) (message (messageOf six bytes)) (damage 6)
+judged six n payload sum = cond (eqb sum (checksum (earlierOf six n payload))) (message (messageOf six payload)) (damage 6)

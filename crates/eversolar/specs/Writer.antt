@@ -5,15 +5,15 @@ use lib.ListN.{length}
 use lib.Dec.{ltb}
 use Rattle.answers.specs.Written.{Writes}
 use Rattle.answers.specs.declared.Written.{Written}
-use Rattle.eversolar.specs.Wire.{Message, dataMax, wire}
+use Rattle.eversolar.specs.Wire.{Message, payloadMax, wire}
 
 -- 8, then 9, then the bytes of the message's frame
 abbrev pub WritesMessage : Message → List ℕ → Written → List ℕ → Type 0
-WritesMessage m = Writes (ltb dataMax (length (m .bytes))) (wire m)
+WritesMessage m = Writes (ltb payloadMax (length (m .payload))) (wire m)
 
 -- what `write` promises of source, destination, control, function and data, the lent buffer, its result and the buffer afterwards
 abbrev pub IsWritten : ℕ → ℕ → ℕ → ℕ → ℕ → ℕ → List ℕ → List ℕ → Written → List ℕ → Type 0
-IsWritten sourceFirst sourceSecond destinationFirst destinationSecond control function bytes =
+IsWritten sourceFirst sourceSecond destinationFirst destinationSecond control function payload =
     WritesMessage (record {
       sourceFirst = sourceFirst;
       sourceSecond = sourceSecond;
@@ -21,5 +21,5 @@ IsWritten sourceFirst sourceSecond destinationFirst destinationSecond control fu
       destinationSecond = destinationSecond;
       control = control;
       function = function;
-      bytes = bytes;
+      payload = payload;
     })

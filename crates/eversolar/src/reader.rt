@@ -7,7 +7,7 @@ ghost use mathlib.Core.Path.{_≡_};
 ghost use mathlib.Core.Bool.{true};
 ghost use lib.ListN.{length, take, drop};
 ghost use Rattle.stream.specs.Call.{lentLeast};
-ghost use Rattle.eversolar.specs.Wire.{total, checksum, dataMax, front};
+ghost use Rattle.eversolar.specs.Wire.{total, checksum, payloadMax, earlierOf};
 ghost use Rattle.eversolar.specs.Machine.{advanceOf, bodyMax, inRange, most};
 ghost use Rattle.eversolar.specs.Reader.{IsFresh, IsStep};
 ghost use Rattle.eversolar.specs.Inside.{Hunted, Filled, Fits, Runs, eventOf, judgedFrame, JudgedAs, Small, given};
@@ -22,16 +22,16 @@ const SIX: usize = 6;
 
 const HEADER: usize = SIX + 1;
 
-const DATA: usize = 255;
+const PAYLOAD: usize = 255;
 
 // What a reader holds at most: of the checksum the first byte is held, the second ends the frame.
-const BODY: usize = HEADER + DATA + 1;
+const BODY: usize = HEADER + PAYLOAD + 1;
 
 // What the bytes read so far have led to. A field that the stage does not use is 0; what `held` has beyond `count` is left over and means nothing.
 pub struct Reader {
     // the bytes since AA 55, as far as they have come
     pub held: [u8; BODY],
-    // LOOKING, MARK_SEEN, IN_HEAD or IN_BODY
+    // LOOKING, MARK_SEEN, IN_LEAD or IN_BODY
     pub stage: u8,
     // in the head and in the body the bytes held
     pub count: usize,
@@ -71,31 +71,31 @@ const LOOKING: u8 = 0;
 
 const MARK_SEEN: u8 = 1;
 
-const IN_HEAD: u8 = 2;
+const IN_LEAD: u8 = 2;
 
 const IN_BODY: u8 = 3;
 
 // Where a hunt for AA 55 ends: at the place after the 55, or at the end of the piece, in a stage of looking.
-enum Place {
+enum HuntEnd {
     Found(usize),
     End(u8),
 }
 
 // Looks for AA directly followed by 55 from `from` on. An AA that comes where 55 is looked for may itself open a header.
-fn hunt(piece: &[u8], from: usize, stage: u8) -> Place
+fn hunt(piece: &[u8], from: usize, stage: u8) -> HuntEnd
     requires { ⌜ (from ≤ length (now piece)) × (stage < 2) ⌝ }
     ensures { λ r. ⌜ Hunted (now (piece .entry)) from stage r ⌝ }
 {
     let mut stage = stage;
     let mut i = from;
-    let place = loop {
+    let found = loop {
         if piece.len() <= i {
-            break Place::End(stage);
+            break HuntEnd::End(stage);
         }
         let b = piece[i];
         i += 1;
         if (stage == MARK_SEEN) & (b == SECOND_MARK) {
-            break Place::Found(i);
+            break HuntEnd::Found(i);
         }
         if b == FIRST_MARK {
             stage = MARK_SEEN;
@@ -103,15 +103,15 @@ fn hunt(piece: &[u8], from: usize, stage: u8) -> Place
             stage = LOOKING;
         }
     };
-    place
+    found
 }
 
 // How many bytes since AA 55 are kept before the one that tells the length, or the last.
 fn most_of(stage: u8, len: usize) -> usize
-    requires { ⌜ len ≤ dataMax ⌝ }
+    requires { ⌜ len ≤ payloadMax ⌝ }
     ensures { λ r. ⌜ (r ≡ most stage len) × (r ≤ bodyMax) ⌝ }
 {
-    if stage == IN_HEAD {
+    if stage == IN_LEAD {
         SIX
     } else {
         HEADER + 1 + len
@@ -130,13 +130,13 @@ enum Move {
 
 // The one place that decides.
 fn advance(stage: u8, count: usize, len: usize) -> Move
-    requires { ⌜ len ≤ dataMax ⌝ }
+    requires { ⌜ len ≤ payloadMax ⌝ }
     ensures { λ r. ⌜ r ≡ advanceOf stage count len ⌝ }
 {
     if count < most_of(stage, len) {
         return Move::Keep;
     }
-    if stage == IN_HEAD {
+    if stage == IN_LEAD {
         return Move::Size;
     }
     Move::Close
@@ -144,7 +144,7 @@ fn advance(stage: u8, count: usize, len: usize) -> Move
 
 // The `n` bytes of `s` from `from` on added up. 255 bytes come to less than 65,536, and in 16 bits eight are added at once.
 fn total_of(s: &[u8], from: usize, n: usize) -> usize
-    requires { ⌜ (from + n ≤ length (now s)) × (n ≤ dataMax) × (from ≤ dataMax) ⌝ }
+    requires { ⌜ (from + n ≤ length (now s)) × (n ≤ payloadMax) × (from ≤ payloadMax) ⌝ }
     ensures { λ r. ⌜ (r ≡ total (take n (drop from (now (s .entry))))) × (r ≤ 256 * n) ⌝ }
 {
     let mut sum: u16 = 0;
@@ -158,8 +158,8 @@ fn total_of(s: &[u8], from: usize, n: usize) -> usize
 
 // The checksum of a frame by its length and the bytes since AA 55 at the front of `s`. The length is not looked up in `s`, where a reader may have left anything.
 pub(crate) fn checksum_of(len: usize, s: &[u8]) -> u16
-    requires { ⌜ (7 + len ≤ length (now s)) × (len ≤ dataMax) ⌝ }
-    ensures { λ r. ⌜ r ≡ checksum (front (take 6 (now (s .entry))) len (take len (drop 7 (now (s .entry))))) ⌝ }
+    requires { ⌜ (7 + len ≤ length (now s)) × (len ≤ payloadMax) ⌝ }
+    ensures { λ r. ⌜ r ≡ checksum (earlierOf (take 6 (now (s .entry))) len (take len (drop 7 (now (s .entry))))) ⌝ }
 {
     let marks = FIRST_MARK as usize + SECOND_MARK as usize;
     let sum = marks + len + total_of(s, 0, SIX) + total_of(s, HEADER, len);
@@ -198,7 +198,7 @@ fn fill(
     piece: &[u8],
     from: usize,
 ) -> usize
-    requires { ⌜ (2 ≤ stage) × (len ≤ dataMax) × (count ≤ most stage len) × (from ≤ length (now piece)) × (length (now held) ≡ bodyMax) ⌝ }
+    requires { ⌜ (2 ≤ stage) × (len ≤ payloadMax) × (count ≤ most stage len) × (from ≤ length (now piece)) × (length (now held) ≡ bodyMax) ⌝ }
     ensures { λ r. ⌜ Filled stage len (now (piece .entry)) from count (now (held .entry)) r (now (held .exit)) ⌝ }
 {
     let stop = from + least(piece.len() - from, most_of(stage, len) - count);
@@ -222,14 +222,14 @@ fn run_in(stage: u8, count: usize, len: usize, held: &mut [u8; BODY], piece: &[u
     let mut len = len;
     let mut i: usize = 0;
     while i < piece.len() {
-        if stage < IN_HEAD {
-            let place = hunt(piece, i, stage);
-            match place {
-                Place::Found(j) => {
-                    stage = IN_HEAD;
+        if stage < IN_LEAD {
+            let found = hunt(piece, i, stage);
+            match found {
+                HuntEnd::Found(j) => {
+                    stage = IN_LEAD;
                     i = j;
                 }
-                Place::End(s) => {
+                HuntEnd::End(s) => {
                     stage = s;
                     i = piece.len();
                 }
@@ -279,14 +279,14 @@ fn run_in(stage: u8, count: usize, len: usize, held: &mut [u8; BODY], piece: &[u
 fn in_range(stage: u8, count: usize, len: usize) -> bool
     ensures { λ r. ⌜ r ≡ inRange stage count len ⌝ }
 {
-    if stage < IN_HEAD {
+    if stage < IN_LEAD {
         if count == 0 { len == 0 } else { false }
     } else {
-        if stage == IN_HEAD {
+        if stage == IN_LEAD {
             if count <= SIX { len == 0 } else { false }
         } else {
             if stage == IN_BODY {
-                if len <= DATA {
+                if len <= PAYLOAD {
                     if HEADER <= count {
                         count <= HEADER + 1 + len
                     } else {
@@ -304,7 +304,7 @@ fn in_range(stage: u8, count: usize, len: usize) -> bool
 
 // What a frame comes to, by its length, the last byte of its checksum and the held bytes.
 fn judge_frame(len: usize, last: u8, held: &[u8]) -> Answer
-    requires { ⌜ (len ≤ dataMax) × (length (now held) ≡ bodyMax) ⌝ }
+    requires { ⌜ (len ≤ payloadMax) × (length (now held) ≡ bodyMax) ⌝ }
     ensures { λ r. ⌜ JudgedAs (judgedFrame len last (now (held .entry))) r ⌝ }
 {
     let right = checksum_of(len, held);
@@ -356,7 +356,7 @@ impl Reader {
     // source, destination, control, function and length
     pub const HEADER: usize = HEADER;
     // the data that a message has at most
-    pub const DATA: usize = DATA;
+    pub const PAYLOAD: usize = PAYLOAD;
     // both, and the checksum's first byte: what a reader holds
     pub const BODY: usize = BODY;
     // what a host lends at least, whatever the family

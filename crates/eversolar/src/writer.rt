@@ -11,16 +11,16 @@ ghost use mathlib.Core.List.{[], _∷_};
 ghost use Prim.Native.Nat.{_≤_};
 ghost use lib.ListN.{length};
 ghost use lib.Seq.{sets};
-ghost use Rattle.eversolar.specs.Wire.{front};
+ghost use Rattle.eversolar.specs.Wire.{earlierOf};
 ghost use Rattle.eversolar.specs.Writer.{IsWritten};
 
 // Where the body begins, and where the data do: after AA 55; after source, destination, control, function and length too.
 const BODY_AT: usize = 2;
 
-const DATA_AT: usize = BODY_AT + Reader::HEADER;
+const PAYLOAD_AT: usize = BODY_AT + Reader::HEADER;
 
 // Stores all that stands before the data.
-fn put_head(
+fn put_lead(
     source_first: u8,
     source_second: u8,
     destination_first: u8,
@@ -31,7 +31,7 @@ fn put_head(
     lent: &mut [u8],
 )
     requires { ⌜ 9 ≤ length (now lent) ⌝ }
-    ensures { λ _. ⌜ now (lent .exit) ≡ sets (now (lent .entry)) 0 (front («source_first» ∷ «source_second» ∷ «destination_first» ∷ «destination_second» ∷ control ∷ function ∷ []) len []) ⌝ }
+    ensures { λ _. ⌜ now (lent .exit) ≡ sets (now (lent .entry)) 0 (earlierOf («source_first» ∷ «source_second» ∷ «destination_first» ∷ «destination_second» ∷ control ∷ function ∷ []) len []) ⌝ }
 {
     lent[0] = FIRST_MARK;
     lent[1] = SECOND_MARK;
@@ -52,21 +52,21 @@ pub fn write(
     destination_second: u8,
     control: u8,
     function: u8,
-    data: &[u8],
+    payload: &[u8],
     lent: &mut [u8],
 ) -> Written
-    ensures { λ w. ⌜ IsWritten «source_first» «source_second» «destination_first» «destination_second» control function (now («data» .entry)) (now (lent .entry)) w (now (lent .exit)) ⌝ }
+    ensures { λ w. ⌜ IsWritten «source_first» «source_second» «destination_first» «destination_second» control function (now (payload .entry)) (now (lent .entry)) w (now (lent .exit)) ⌝ }
 {
-    let n = data.len();
-    if Reader::DATA < n {
+    let n = payload.len();
+    if Reader::PAYLOAD < n {
         return Written::Refused(Refusal::TooLong);
     }
-    let sum_at = DATA_AT + n;
+    let sum_at = PAYLOAD_AT + n;
     let length = sum_at + 2;
     if lent.len() < length {
         return Written::Refused(Refusal::NoRoom);
     }
-    put_head(
+    put_lead(
         source_first,
         source_second,
         destination_first,
@@ -76,7 +76,7 @@ pub fn write(
         n as u8,
         lent,
     );
-    bytes::copy(data, &mut lent[DATA_AT..]);
+    bytes::copy(payload, &mut lent[PAYLOAD_AT..]);
     let sum = checksum_of(n, &lent[BODY_AT..]);
     let pair = bytes_of(sum);
     lent[sum_at] = pair.first;

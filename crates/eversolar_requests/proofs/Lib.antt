@@ -1,3 +1,3 @@
-pub mod Requested
-pub mod ReadBack
+pub mod BuilderEnds
+pub mod RequestReadsBack
 pub mod One

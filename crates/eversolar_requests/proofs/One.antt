@@ -5,7 +5,7 @@ use mathlib.Core.Path.{_≡_, sym, _∙_}
 use mathlib.Core.Bool.{Bool, true}
 use mathlib.Core.List.{List}
 use Rattle.answers.specs.declared.Written.{Written}
-use Rattle.answers.proofs.Numbers.{written-alike}
+use Rattle.answers.proofs.NumbersHaveCases.{written-alike}
 use Rattle.eversolar.specs.Wire.{Message}
 use Rattle.eversolar_requests.specs.Requests.{askAll, giveAddress, askOne, isAddress, isSerial, Requests, IsAskAll, IsAskOne, IsGiveAddress}
 use Rattle.eversolar_requests.specs.declared.ToAll.{ToAll}

@@ -8,7 +8,7 @@ use lib.Dec.{eqb, leb}
 use Rattle.answers.specs.Answer.{Answer}
 use Rattle.answers.specs.Refusal.{refused}
 use Rattle.answers.specs.Written.{told, writing}
-use Rattle.answers.specs.declared.Refusal.the-variants.{OutOfRange, Unfit}
+use Rattle.answers.specs.declared.Refusal.the-variants.{WrongAddressOrExponentTooLow, NotForThisCall}
 use Rattle.answers.specs.declared.Written.{Written}
 use Rattle.eversolar.specs.Wire.{Message, wire}
 use Rattle.eversolar_requests.specs.declared.ToAll.{ToAll}
@@ -18,14 +18,14 @@ use Rattle.eversolar_requests.specs.declared.ToOne.the-variants.{Remove,
 
 -- every source is the master, 01 00; a destination is 00 and an address, or 00 00
 abbrev pub request : ℕ → ℕ → ℕ → List ℕ → Message
-request address control function bytes = record {
+request address control function payload = record {
   sourceFirst = 0x01;
   sourceSecond = 0x00;
   destinationFirst = 0x00;
   destinationSecond = address;
   control = control;
   function = function;
-  bytes = bytes;
+  payload = payload;
 }
 
 -- off-line query, reconnect and re-register: to 00 00. Only 10/01 carries data
@@ -57,8 +57,8 @@ isSerial serial = eqb (length serial) 16
 unfoldable pub requesting : Bool → Bool → Message → List ℕ → Answer × List ℕ
 requesting address serial m lent =
     cond address
-    (cond serial (writing false (wire m) lent) (refused 1 Unfit, lent))
-    (refused 1 OutOfRange, lent)
+    (cond serial (writing false (wire m) lent) (refused 1 NotForThisCall, lent))
+    (refused 1 WrongAddressOrExponentTooLow, lent)
 
 abbrev pub Requests : Bool → Bool → Message → List ℕ → Written → List ℕ → Type 0
 Requests address serial m lent w later = (told w ≡ requesting address serial m lent .0) × (later ≡ requesting address serial m lent .1)

@@ -110,8 +110,14 @@ fn is_address(address: u8) -> bool
 }
 
 // A message from the master.
-fn from_master(destination: u8, control: u8, function: u8, data: &[u8], lent: &mut [u8]) -> Written
-    ensures { λ w. ⌜ WritesMessage (request destination control function (now («data» .entry))) (now (lent .entry)) w (now (lent .exit)) ⌝ }
+fn from_master(
+    destination: u8,
+    control: u8,
+    function: u8,
+    payload: &[u8],
+    lent: &mut [u8],
+) -> Written
+    ensures { λ w. ⌜ WritesMessage (request destination control function (now (payload .entry))) (now (lent .entry)) w (now (lent .exit)) ⌝ }
 {
     write(
         MASTER_FIRST,
@@ -120,7 +126,7 @@ fn from_master(destination: u8, control: u8, function: u8, data: &[u8], lent: &m
         destination,
         control,
         function,
-        data,
+        payload,
         lent,
     )
 }
@@ -139,7 +145,7 @@ pub fn ask_one(what: ToOne, address: u8, lent: &mut [u8]) -> Written
     ensures { λ w. ⌜ IsAskOne what address (now (lent .entry)) w (now (lent .exit)) ⌝ }
 {
     if !is_address(address) {
-        return Written::Refused(Refusal::OutOfRange);
+        return Written::Refused(Refusal::WrongAddressOrExponentTooLow);
     }
     let code = code_to_one(what, address);
     let nothing: [u8; 0] = [];
@@ -151,13 +157,13 @@ pub fn give_address(serial: &[u8], address: u8, lent: &mut [u8]) -> Written
     ensures { λ w. ⌜ IsGiveAddress (now (serial .entry)) address (now (lent .entry)) w (now (lent .exit)) ⌝ }
 {
     if !is_address(address) {
-        return Written::Refused(Refusal::OutOfRange);
+        return Written::Refused(Refusal::WrongAddressOrExponentTooLow);
     }
     if serial.len() != SERIAL {
-        return Written::Refused(Refusal::Unfit);
+        return Written::Refused(Refusal::NotForThisCall);
     }
-    let mut data: [u8; 17] = [0; 17];
-    bytes::copy(serial, &mut data);
-    data[SERIAL] = address;
-    from_master(EVERYONE, REGISTER, GIVE, &data, lent)
+    let mut payload: [u8; 17] = [0; 17];
+    bytes::copy(serial, &mut payload);
+    payload[SERIAL] = address;
+    from_master(EVERYONE, REGISTER, GIVE, &payload, lent)
 }

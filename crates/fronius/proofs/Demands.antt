@@ -2,7 +2,7 @@
 -- Assumes nothing.
 use Rattle.stream.proofs.Demands as Demands
 use Rattle.fronius.specs.Demands.{fronius, Accepts, ReadsBack, Handed, InPieces, UsedUp, Different, Kept, NeverSpoilt}
-use Rattle.fronius.proofs.Facts.{facts}
+use Rattle.fronius.proofs.FamilyFacts.{facts}
 
 pub accepts : Accepts
 accepts = Demands.accepts fronius facts

@@ -1,8 +1,8 @@
-pub mod Moves
-pub mod Range
-pub mod Judge
-pub mod Frame
-pub mod Follows
-pub mod Facts
+pub mod MachineMoves
+pub mod StageRanges
+pub mod JudgedIsDelivered
+pub mod WriterWritesFrame
+pub mod MachineFollowsRule
+pub mod FamilyFacts
 pub mod Demands
 pub mod One

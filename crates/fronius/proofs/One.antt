@@ -6,17 +6,17 @@ use mathlib.Core.List.{List}
 use lib.ListN.{length}
 use lib.Dec.{ltb}
 use Rattle.answers.specs.declared.Written.{Written}
-use Rattle.answers.proofs.Writing.{writes-one}
+use Rattle.answers.proofs.WriterPromise.{writes-one}
 use Rattle.stream.specs.Call.{Seen}
-use Rattle.stream.proofs.Call.{steps-one}
-use Rattle.fronius.specs.Wire.{dataMax, wire}
+use Rattle.stream.proofs.PromiseOfStep.{steps-one}
+use Rattle.fronius.specs.Wire.{payloadMax, wire}
 use Rattle.fronius.specs.Machine.{next}
 use Rattle.fronius.specs.Reader.{inRange, header, shown, IsFresh, IsStep}
 use Rattle.fronius.specs.Writer.{IsWritten}
 use Rattle.fronius.specs.declared.reader.Reader.{Reader}
 use Rattle.fronius.specs.declared.reader.Header.{Header}
 use Rattle.fronius.specs.declared.reader.Step.{Step}
-use Rattle.fronius.proofs.Judge.{told-alike}
+use Rattle.fronius.proofs.JudgedIsDelivered.{told-alike}
 
 pub fresh-one : (r s : Reader) → IsFresh r → IsFresh s → r ≡ s
 fresh-one r s x y = x ∙ sym y
@@ -33,10 +33,10 @@ shown-alike q r e =
 
 pub step-one : (s : Reader) (piece lent a b : List ℕ) (q r : Step) → IsStep s piece lent q a → IsStep s piece lent r b → (q ≡ r) × (a ≡ b)
 step-one s piece lent a b q r x y =
-    let one = steps-one next inRange header (λ m. m .bytes) shown s piece lent a b q r x y in
+    let one = steps-one next inRange header (λ m. m .payload) shown s piece lent a b q r x y in
     (shown-alike q r (one .0), one .1)
 
-pub write-one : (device number command : ℕ) (bytes lent a b : List ℕ) (v w : Written) → IsWritten device number command bytes lent v a → IsWritten device number command bytes lent w b
+pub write-one : (device number command : ℕ) (payload lent a b : List ℕ) (v w : Written) → IsWritten device number command payload lent v a → IsWritten device number command payload lent w b
     → (v ≡ w) × (a ≡ b)
-write-one device number command bytes lent a b v w x y =
-    writes-one (ltb dataMax (length bytes)) (wire (record { device = device; number = number; command = command; bytes = bytes })) lent a b v w x y
+write-one device number command payload lent a b v w x y =
+    writes-one (ltb payloadMax (length payload)) (wire (record { device = device; number = number; command = command; payload = payload })) lent a b v w x y

@@ -9,7 +9,7 @@ use Rattle.stream.specs.Event.{Event, damage}
 use Rattle.stream.specs.Event as Event
 use Rattle.stream.specs.Call.{retold}
 use Rattle.stream.specs.Pieces.{scan, scanFrom}
-use Rattle.fronius.specs.Wire.{Message, dataMax, mark, judged}
+use Rattle.fronius.specs.Wire.{Message, payloadMax, mark, judged}
 use Rattle.fronius.specs.Machine.{filling, inRange, next}
 use Rattle.fronius.specs.Reader.{told, header}
 use Rattle.fronius.specs.declared.reader.Answer.{Answer}
@@ -39,7 +39,7 @@ eventOf BadLength held = some (damage 7)
 -- a length that was read is one that a message has
 abbrev pub Fits : End → Type 0
 Fits UsedUp = Unit {0}
-Fits (Closed len sum) = len ≤ dataMax
+Fits (Closed len sum) = len ≤ payloadMax
 Fits BadLength = Unit {0}
 
 -- `run_in`: the scan of the piece, which ends in a state in range
@@ -53,12 +53,12 @@ pub record Runs (stage count len : ℕ) (held piece : List ℕ) (r : Ran) (later
 
 -- `judge`: the answer tells the event
 abbrev pub JudgedAs : Option (Event Message) → Answer → Type 0
-JudgedAs event answer = told answer ≡ retold header (Event.told event)
+JudgedAs event answer = told answer ≡ retold header (Event.outcome event)
 
 -- a length that is told is one that a message has
 abbrev pub Small : Answer → Type 0
 Small Done = Unit {0}
-Small (Read h) = h .len ≤ dataMax
+Small (Read h) = h .len ≤ payloadMax
 Small (Damaged what) = Unit {0}
 Small (Refused why) = Unit {0}
 
@@ -70,5 +70,5 @@ given (Damaged what) held lent = lent
 given (Refused why) held lent = lent
 
 -- `put_head`: all that stands before the data
-abbrev pub head : ℕ → ℕ → ℕ → ℕ → List ℕ
-head len device number command = mark ∷ mark ∷ mark ∷ len ∷ device ∷ number ∷ command ∷ []
+abbrev pub lead : ℕ → ℕ → ℕ → ℕ → List ℕ
+lead len device number command = mark ∷ mark ∷ mark ∷ len ∷ device ∷ number ∷ command ∷ []

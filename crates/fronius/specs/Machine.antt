@@ -7,7 +7,7 @@ use lib.ListN.{take, set, replicate}
 use lib.Dec.{eqb, ltb, leb}
 use Rattle.stream.specs.Event.{Event, damage}
 use Rattle.stream.specs.Pieces.{Moved}
-use Rattle.fronius.specs.Wire.{Message, dataMax, mark, judged}
+use Rattle.fronius.specs.Wire.{Message, payloadMax, mark, judged}
 use Rattle.fronius.specs.declared.reader.Reader.{Reader}
 use Rattle.fronius.specs.declared.reader.Move.{Move}
 use Rattle.fronius.specs.declared.reader.Move.the-variants.{Count, Open, Keep, Close, Bad}
@@ -22,7 +22,7 @@ filling len count held = record { held = held; stage = 1; count = count; len = l
 
 -- device, number, command and data: what a reader holds
 abbrev pub bodyMax : ℕ
-bodyMax = 3 + dataMax
+bodyMax = 3 + payloadMax
 
 abbrev pub fresh : Reader
 fresh = counting 0 (replicate bodyMax 0)
@@ -31,7 +31,7 @@ fresh = counting 0 (replicate bodyMax 0)
 unfoldable pub inRange : ℕ → ℕ → ℕ → Bool
 inRange stage count len =
     cond (eqb stage 0) (cond (leb count 3) (eqb len 0) false)
-    (cond (eqb stage 1) (cond (leb len dataMax) (leb count (3 + len)) false) false)
+    (cond (eqb stage 1) (cond (leb len payloadMax) (leb count (3 + len)) false) false)
 
 -- what a byte b asks
 unfoldable pub advanceOf : ℕ → ℕ → ℕ → ℕ → Move

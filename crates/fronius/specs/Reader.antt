@@ -20,18 +20,18 @@ use Rattle.fronius.specs.declared.reader.Answer.the-variants.{Done, Mess
 abbrev pub told : Answer → Told Header
 told Done = done
 told (Read h) = gives (message h)
-told (Damaged what) = gives (damage (Damage.told what))
-told (Refused why) = refuses (Refusal.told why)
+told (Damaged what) = gives (damage (Damage.number what))
+told (Refused why) = refuses (Refusal.number why)
 
 abbrev pub shown : Step → Seen Reader Header
 shown r = record { state = r .reader; told = told (r .answer); used = r .used }
 
 -- a message's header; and the message again, from its header and the buffer at whose front its data stand
 abbrev pub header : Message → Header
-header m = record { device = m .device; number = m .number; command = m .command; len = length (m .bytes) }
+header m = record { device = m .device; number = m .number; command = m .command; len = length (m .payload) }
 
 abbrev pub join : Header → List ℕ → Message
-join h later = record { device = h .device; number = h .number; command = h .command; bytes = take (h .len) later }
+join h later = record { device = h .device; number = h .number; command = h .command; payload = take (h .len) later }
 
 -- stage, held count and held data length lie in that stage's range
 abbrev pub inRange : Reader → Bool
@@ -43,4 +43,4 @@ IsFresh r = r ≡ Machine.fresh
 
 -- what `Reader::step` promises, of state, piece, lent buffer, result and the buffer afterwards
 abbrev pub IsStep : Reader → List ℕ → List ℕ → Step → List ℕ → Type 0
-IsStep = Steps Machine.next inRange header (λ m. m .bytes) shown
+IsStep = Steps Machine.next inRange header (λ m. m .payload) shown

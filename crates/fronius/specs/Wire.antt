@@ -11,19 +11,19 @@ pub record Message : Type 0 where
   pub device : ℕ
   pub number : ℕ
   pub command : ℕ
-  pub bytes : List ℕ
+  pub payload : List ℕ
 
 -- 0 to 127 data bytes
-abbrev pub dataMax : ℕ
-dataMax = 127
+abbrev pub payloadMax : ℕ
+payloadMax = 127
 
 -- a message that the writer takes: all its parts are bytes, and its data are not too long
 pub record Takes (m : Message) : Type 0 where
   pub device : m .device < 256
   pub number : m .number < 256
   pub command : m .command < 256
-  pub bytes : T (areBytes (m .bytes))
-  pub fits : length (m .bytes) ≤ dataMax
+  pub payload : T (areBytes (m .payload))
+  pub fits : length (m .payload) ≤ payloadMax
 
 -- the byte of which three make a start
 abbrev pub mark : ℕ
@@ -39,15 +39,15 @@ checksum bs = total bs % 256
 
 -- between length and checksum
 abbrev pub body : Message → List ℕ
-body m = m .device ∷ m .number ∷ m .command ∷ m .bytes
+body m = m .device ∷ m .number ∷ m .command ∷ m .payload
 
 -- Length always counts the data
 abbrev pub wire : Message → List ℕ
-wire m = mark ∷ mark ∷ mark ∷ length (m .bytes) ∷ (body m ++ (checksum (length (m .bytes) ∷ body m) ∷ []))
+wire m = mark ∷ mark ∷ mark ∷ length (m .payload) ∷ (body m ++ (checksum (length (m .payload) ∷ body m) ∷ []))
 
 -- the message that a body is
 abbrev pub messageOf : List ℕ → Message
-messageOf bs = record { device = getD bs 0 0; number = getD bs 1 0; command = getD bs 2 0; bytes = drop 3 bs }
+messageOf bs = record { device = getD bs 0 0; number = getD bs 1 0; command = getD bs 2 0; payload = drop 3 bs }
 
 -- what a frame comes to, by its length, its body and the checksum that came: a wrong sum is 6
 unfoldable pub judged : ℕ → List ℕ → ℕ → Event Message

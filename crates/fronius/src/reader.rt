@@ -7,7 +7,7 @@ ghost use mathlib.Core.Bool.{true};
 ghost use mathlib.Core.List.{_∷_, _++_};
 ghost use lib.ListN.{length, take, drop};
 ghost use Rattle.stream.specs.Call.{lentLeast};
-ghost use Rattle.fronius.specs.Wire.{dataMax, total, checksum};
+ghost use Rattle.fronius.specs.Wire.{payloadMax, total, checksum};
 ghost use Rattle.fronius.specs.Machine.{bodyMax, advanceOf, inRange};
 ghost use Rattle.fronius.specs.Reader.{IsFresh, IsStep};
 ghost use Rattle.fronius.specs.Inside.{Filled, Fits, Runs, eventOf, judgedFrame, JudgedAs, Small, given};
@@ -15,9 +15,9 @@ ghost use Rattle.fronius.specs.Inside.{Filled, Fits, Runs, eventOf, judg
 // The limits, named here because the reader's own constants cannot size its own array.
 const HEADER: usize = 3;
 
-const DATA: usize = 127;
+const PAYLOAD: usize = 127;
 
-const BODY: usize = HEADER + DATA;
+const BODY: usize = HEADER + PAYLOAD;
 
 // What the bytes read so far have led to. A field that the stage does not use is 0; what `held` has beyond `count` is left over and means nothing.
 pub struct Reader {
@@ -79,7 +79,7 @@ enum Move {
 
 // The one place that decides.
 fn advance(stage: u8, count: usize, len: usize, b: u8) -> Move
-    requires { ⌜ len ≤ dataMax ⌝ }
+    requires { ⌜ len ≤ payloadMax ⌝ }
     ensures { λ r. ⌜ r ≡ advanceOf stage count len b ⌝ }
 {
     if stage == AT_START {
@@ -119,7 +119,7 @@ fn total_of(s: &[u8], n: usize) -> u8
 
 // The checksum over a length and the body of that length at the front of `s`.
 pub(crate) fn checksum_of(len: usize, s: &[u8]) -> u8
-    requires { ⌜ (3 + len ≤ length (now s)) × (len ≤ dataMax) ⌝ }
+    requires { ⌜ (3 + len ≤ length (now s)) × (len ≤ payloadMax) ⌝ }
     ensures { λ r. ⌜ r ≡ checksum (len ∷ take (3 + len) (now (s .entry))) ⌝ }
 {
     let sum = len + total_of(s, HEADER + len) as usize;
@@ -152,7 +152,7 @@ fn least(a: usize, b: usize) -> usize
 
 // Takes in bytes of the body from `from` on, which need no look, as many as it still lacks and the piece has; gives the place after the last.
 fn fill(held: &mut [u8; BODY], count: usize, len: usize, piece: &[u8], from: usize) -> usize
-    requires { ⌜ (count ≤ 3 + len) × (len ≤ dataMax) × (from ≤ length (now piece)) × (length (now held) ≡ bodyMax) ⌝ }
+    requires { ⌜ (count ≤ 3 + len) × (len ≤ payloadMax) × (from ≤ length (now piece)) × (length (now held) ≡ bodyMax) ⌝ }
     ensures { λ r. ⌜ Filled len (now (piece .entry)) from count (now (held .entry)) r (now (held .exit)) ⌝ }
 {
     let stop = from + least(piece.len() - from, HEADER + len - count);
@@ -235,7 +235,7 @@ fn in_range(stage: u8, count: usize, len: usize) -> bool
         if count <= STARTS { len == 0 } else { false }
     } else {
         if stage == IN_BODY {
-            if len <= DATA {
+            if len <= PAYLOAD {
                 count <= HEADER + len
             } else {
                 false
@@ -248,7 +248,7 @@ fn in_range(stage: u8, count: usize, len: usize) -> bool
 
 // What a frame comes to, by its length, the checksum that came and the held bytes.
 fn judge_frame(len: usize, sum: u8, held: &[u8]) -> Answer
-    requires { ⌜ (len ≤ dataMax) × (length (now held) ≡ bodyMax) ⌝ }
+    requires { ⌜ (len ≤ payloadMax) × (length (now held) ≡ bodyMax) ⌝ }
     ensures { λ r. ⌜ JudgedAs (judgedFrame len sum (now (held .entry))) r ⌝ }
 {
     let right = checksum_of(len, held);
@@ -272,7 +272,7 @@ fn judge(end: End, held: &[u8]) -> Answer
     match end {
         End::UsedUp => Answer::Done,
         End::Closed { len, sum } => judge_frame(len, sum, held),
-        End::BadLength => Answer::Damaged(Damage::WrongCount),
+        End::BadLength => Answer::Damaged(Damage::WrongLengthByte),
     }
 }
 
@@ -297,7 +297,7 @@ impl Reader {
     // device, number, command
     pub const HEADER: usize = HEADER;
     // the data that a message has at most
-    pub const DATA: usize = DATA;
+    pub const PAYLOAD: usize = PAYLOAD;
     // both: what a reader holds
     pub const BODY: usize = BODY;
     // what a host lends at least, whatever the family

@@ -8,7 +8,7 @@ ghost use Prim.Native.Nat.{_≤_};
 ghost use lib.ListN.{length};
 ghost use lib.Seq.{sets};
 ghost use Rattle.fronius.specs.Writer.{IsWritten};
-ghost use Rattle.fronius.specs.Inside.{head};
+ghost use Rattle.fronius.specs.Inside.{lead};
 
 // The byte of which three make a start.
 const MARK: u8 = 0x80;
@@ -16,12 +16,12 @@ const MARK: u8 = 0x80;
 // Where the body begins, and where the data do: after the start and the length; after device, number and command too.
 const BODY_AT: usize = 4;
 
-const DATA_AT: usize = BODY_AT + Reader::HEADER;
+const PAYLOAD_AT: usize = BODY_AT + Reader::HEADER;
 
 // Stores all that stands before the data.
-fn put_head(len: u8, device: u8, number: u8, command: u8, lent: &mut [u8])
+fn put_lead(len: u8, device: u8, number: u8, command: u8, lent: &mut [u8])
     requires { ⌜ 7 ≤ length (now lent) ⌝ }
-    ensures { λ _. ⌜ now (lent .exit) ≡ sets (now (lent .entry)) 0 (head len device number command) ⌝ }
+    ensures { λ _. ⌜ now (lent .exit) ≡ sets (now (lent .entry)) 0 (lead len device number command) ⌝ }
 {
     lent[0] = MARK;
     lent[1] = MARK;
@@ -33,20 +33,20 @@ fn put_head(len: u8, device: u8, number: u8, command: u8, lent: &mut [u8])
 }
 
 // Writes a message at the front of `lent`. Nothing is stored before both tests have held.
-pub fn write(device: u8, number: u8, command: u8, data: &[u8], lent: &mut [u8]) -> Written
-    ensures { λ w. ⌜ IsWritten device number command (now («data» .entry)) (now (lent .entry)) w (now (lent .exit)) ⌝ }
+pub fn write(device: u8, number: u8, command: u8, payload: &[u8], lent: &mut [u8]) -> Written
+    ensures { λ w. ⌜ IsWritten device number command (now (payload .entry)) (now (lent .entry)) w (now (lent .exit)) ⌝ }
 {
-    let n = data.len();
-    if Reader::DATA < n {
+    let n = payload.len();
+    if Reader::PAYLOAD < n {
         return Written::Refused(Refusal::TooLong);
     }
-    let last = DATA_AT + n;
+    let last = PAYLOAD_AT + n;
     let length = last + 1;
     if lent.len() < length {
         return Written::Refused(Refusal::NoRoom);
     }
-    put_head(n as u8, device, number, command, lent);
-    bytes::copy(data, &mut lent[DATA_AT..]);
+    put_lead(n as u8, device, number, command, lent);
+    bytes::copy(payload, &mut lent[PAYLOAD_AT..]);
     let sum = checksum_of(n, &lent[BODY_AT..]);
     lent[last] = sum;
     Written::Done(length)

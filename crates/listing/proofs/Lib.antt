@@ -1,5 +1,5 @@
-pub mod Laying
-pub mod Room
-pub mod Draining
-pub mod Making
+pub mod LinesInOrder
+pub mod LinesFit
+pub mod DrainReadsPiece
+pub mod StepMakes
 pub mod One

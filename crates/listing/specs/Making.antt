@@ -8,9 +8,9 @@ use lib.ListN.{length, drop}
 use lib.Dec.{eqb, leb}
 use Rattle.answers.specs.Refusal as Refusal
 use Rattle.answers.specs.declared.Refusal.the-variants.{BytesMissing, Spoilt}
-use Rattle.uplink.specs.Packet.{lineMax}
+use Rattle.uplink.specs.Packet.{pieceMax}
 use Rattle.ports.specs.declared.Ports.{Ports}
-use Rattle.lines.specs.Lines.{stopLine}
+use Rattle.listing_text.specs.Lines.{stopLine}
 use Rattle.listing.specs.Steps.{Packet, packetsMax}
 use Rattle.listing.specs.Steps.{Made, fed, readable, refused, wantsMore, ends, takes, inRange, roomLeast, Sound}
 use Rattle.listing.specs.declared.Listing.{Listing}
@@ -19,7 +19,7 @@ use Rattle.listing.specs.declared.Heard.the-variants.{Packet as Took, En
 
 -- `in_range`
 abbrev pub few : (packets messages damages : ℕ) → Bool
-few packets messages damages = leb packets packetsMax && (leb messages (lineMax * packets) && leb damages (lineMax * packets))
+few packets messages damages = leb packets packetsMax && (leb messages (pieceMax * packets) && leb damages (pieceMax * packets))
 
 -- how long the last lines are at most
 abbrev pub stopMost : ℕ
@@ -48,15 +48,15 @@ abbrev pub finish : Listing → (wrote : ℕ) → Listed
 finish l wrote = record { listing = l; heard = End; used = 0; wrote = wrote }
 
 -- a listing that can take a packet of so many line bytes, with so much room
-pub record CanTake (l : Listing) (line room : ℕ) : Type 0 where
+pub record CanTake (l : Listing) (piece room : ℕ) : Type 0 where
   pub counts : inRange l ≡ true
   pub packets : l .packets < packetsMax
-  pub some : 0 < line
-  pub most : line ≤ lineMax
+  pub some : 0 < piece
+  pub most : piece ≤ pieceMax
   pub lent : roomLeast ≤ room
 
 abbrev pub packet : ℕ → List ℕ → Packet
-packet port line = record { port = port; line = line }
+packet port piece = record { port = port; piece = piece }
 
 -- `taken`
 abbrev pub took : Ports → (packets messages damages used wrote : ℕ) → Listed
@@ -73,7 +73,7 @@ taking l p = cond (readable (p .port) (l .ports)) (takes l p (fed p (l .ports)))
 
 -- of a packet that is refused with n
 unfoldable pub noPacket : Listing → (n : ℕ) → (ended : Bool) → Made
-noPacket l n ended = cond (eqb n (Refusal.told BytesMissing) && not ended) (wantsMore l) (ends l (some n))
+noPacket l n ended = cond (eqb n (Refusal.number BytesMissing) && not ended) (wantsMore l) (ends l (some n))
 
 -- of no input
 unfoldable pub atEnd : Listing → (ended : Bool) → Made

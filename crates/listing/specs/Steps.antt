@@ -12,11 +12,11 @@ use Rattle.answers.specs.declared.Refusal.{Refusal}
 use Rattle.answers.specs.declared.Refusal.the-variants.{NoRoom, BytesMissing, Spoilt, TooManyPackets}
 use Rattle.stream.specs.Event.{Event}
 use Rattle.stream.specs.Pieces.{calls}
-use Rattle.uplink.specs.Packet.{headLength, lineMax, portIn, countIn, packetAt}
+use Rattle.uplink.specs.Packet.{leadLength, pieceMax, portIn, countIn, packetAt}
 use Rattle.ports.specs.Ports as Table
-use Rattle.ports.specs.Ports.{Line, seatOf, lineOf}
+use Rattle.ports.specs.Ports.{Seat, rowOf, seatAt}
 use Rattle.ports.specs.declared.Ports.{Ports}
-use Rattle.lines.specs.Lines.{Shown, stopLine, endLine}
+use Rattle.listing_text.specs.Lines.{Shown, stopLine, endLine}
 use Rattle.listing.specs.Entries.{showEvent, entriesOn, linesOf, messagesIn, damagesIn, lastLines}
 use Rattle.listing.specs.declared.Listing.{Listing}
 use Rattle.listing.specs.declared.Listed.{Listed}
@@ -34,11 +34,11 @@ pub record IsFresh (l : Listing) : Type 0 where
 
 pub record Packet : Type 0 where
   pub port : ℕ
-  pub line : List ℕ
+  pub piece : List ℕ
 
 -- the packet at the front of s
 abbrev pub packetIn : List ℕ → Packet
-packetIn s = record { port = portIn s; line = take (countIn s) (drop headLength s) }
+packetIn s = record { port = portIn s; piece = take (countIn s) (drop leadLength s) }
 
 -- how many are taken
 abbrev pub packetsMax : ℕ
@@ -50,22 +50,22 @@ pub record Fed : Type 0 where
   pub ports : Ports
   pub events : List (Event Shown)
 
-abbrev pub fedOn : Option Line → Ports → List ℕ → Fed
-fedOn none ps line = record { ports = ps; events = [] }
-fedOn (some at) ps line =
-    let r = calls (seatOf at .next) (length line) (seatOf at .get ps) line in
-    record { ports = seatOf at .put ps (r .state); events = map (showEvent (seatOf at .show)) (r .events) }
+abbrev pub fedOn : Option Seat → Ports → List ℕ → Fed
+fedOn none ps piece = record { ports = ps; events = [] }
+fedOn (some at) ps piece =
+    let r = calls (rowOf at .next) (length piece) (rowOf at .get ps) piece in
+    record { ports = rowOf at .put ps (r .state); events = map (showEvent (rowOf at .show)) (r .events) }
 
 abbrev pub fed : Packet → Ports → Fed
-fed p ps = fedOn (lineOf (p .port)) ps (p .line)
+fed p ps = fedOn (seatAt (p .port)) ps (p .piece)
 
 -- the reader of the port is in its range
-abbrev pub readableOn : Option Line → Ports → Bool
+abbrev pub readableOn : Option Seat → Ports → Bool
 readableOn none ps = false
-readableOn (some at) ps = seatOf at .inRange (seatOf at .get ps)
+readableOn (some at) ps = rowOf at .inRange (rowOf at .get ps)
 
 abbrev pub readable : (port : ℕ) → Ports → Bool
-readable port ps = readableOn (lineOf port) ps
+readable port ps = readableOn (seatAt port) ps
 
 -- ---- one call
 
@@ -92,7 +92,7 @@ takes l p f =
     record {
       listing = record { ports = f .ports; packets = l .packets + 1; messages = l .messages + messagesIn es; damages = l .damages + damagesIn es };
       heard = Took;
-      used = headLength + length (p .line);
+      used = leadLength + length (p .piece);
       text = linesOf es;
     }
 
@@ -102,15 +102,15 @@ unfoldable pub front : Listing → List ℕ → (ended : Bool) → Made
 front l s ended =
     let n = number (packetAt s) in
     cond (eqb n 0) (cond (readable (portIn s) (l .ports)) (takes l (packetIn s) (fed (packetIn s) (l .ports))) (refused Spoilt l))
-    (cond (eqb n (Refusal.told BytesMissing) && not ended) (wantsMore l) (ends l (some n)))
+    (cond (eqb n (Refusal.number BytesMissing) && not ended) (wantsMore l) (ends l (some n)))
 
 unfoldable pub going : Listing → List ℕ → (ended : Bool) → Made
 going l [] ended = cond ended (ends l none) (wantsMore l)
-going l (b ∷ bs) ended = cond (eqb (l .packets) packetsMax) (ends l (some (Refusal.told TooManyPackets))) (front l (b ∷ bs) ended)
+going l (b ∷ bs) ended = cond (eqb (l .packets) packetsMax) (ends l (some (Refusal.number TooManyPackets))) (front l (b ∷ bs) ended)
 
 -- a listing that may be: no more packets than are taken, and no more messages or damages than they have line bytes
 unfoldable pub inRange : Listing → Bool
-inRange l = leb (l .packets) packetsMax && (leb (l .messages) (lineMax * l .packets) && leb (l .damages) (lineMax * l .packets))
+inRange l = leb (l .packets) packetsMax && (leb (l .messages) (pieceMax * l .packets) && leb (l .damages) (pieceMax * l .packets))
 
 -- what is to be lent at least: room for the lines of any packet
 abbrev pub roomLeast : ℕ
@@ -123,7 +123,7 @@ made l input ended room = cond (inRange l) (cond (ltb room roomLeast) (refused N
 -- a listing that is never refused with 18
 pub record Sound (l : Listing) : Type 0 where
   pub counts : inRange l ≡ true
-  pub readers : (at : Line) → readableOn (some at) (l .ports) ≡ true
+  pub readers : (at : Seat) → readableOn (some at) (l .ports) ≡ true
 
 -- WHAT `Listing::step` PROMISES, of listing, input, whether the input has ended, the lent buffer, the result and the buffer afterwards;
 -- and a sound listing stays sound

@@ -11,7 +11,7 @@ ghost use Rattle.eversolar.specs.Machine as EversolarMachine;
 ghost use Rattle.eversolar.specs.Reader as Eversolar;
 ghost use Rattle.fronius.specs.Machine as FroniusMachine;
 ghost use Rattle.fronius.specs.Reader as Fronius;
-ghost use Rattle.uplink.specs.Packet.{lineMax};
+ghost use Rattle.uplink.specs.Packet.{pieceMax};
 ghost use Rattle.listing.specs.Entries.{showComlynx, showEversolar, showFronius};
 ghost use Rattle.listing.specs.Steps.{roomLeast};
 ghost use Rattle.listing.specs.Inside.{Drains};
@@ -49,11 +49,11 @@ pub(crate) struct FroniusDrained {
 pub(crate) fn drain_comlynx(
     reader: comlynx::Reader,
     port: u8,
-    line: &[u8],
+    piece: &[u8],
     out: &mut [u8],
 ) -> ComlynxDrained
-    requires { ⌜ (1 ≤ port) × (port < 10) × (0 < length (now line)) × (length (now line) ≤ lineMax) × (roomLeast ≤ length (now out)) ⌝ }
-    ensures { λ r. ⌜ Drains ComlynxMachine.next Comlynx.inRange showComlynx reader port (now (line .entry)) (now (out .entry)) (r .reader) (r .spoilt) (r .wrote) (r .messages) (r .damages) (now (out .exit)) ⌝ }
+    requires { ⌜ (1 ≤ port) × (port < 10) × (0 < length (now piece)) × (length (now piece) ≤ pieceMax) × (roomLeast ≤ length (now out)) ⌝ }
+    ensures { λ r. ⌜ Drains ComlynxMachine.next Comlynx.inRange showComlynx reader port (now (piece .entry)) (now (out .entry)) (r .reader) (r .spoilt) (r .wrote) (r .messages) (r .damages) (now (out .exit)) ⌝ }
 {
     let mut lent = [0u8; LENT];
     let answer = comlynx::Answer::Done;
@@ -67,8 +67,8 @@ pub(crate) fn drain_comlynx(
     let mut messages: u64 = 0;
     let mut damages: u64 = 0;
     let mut at: usize = 0;
-    while at < line.len() {
-        s = s.reader.step(&line[at..], &mut lent);
+    while at < piece.len() {
+        s = s.reader.step(&piece[at..], &mut lent);
         at += s.used;
         let answer = s.answer;
         match answer {
@@ -100,11 +100,11 @@ pub(crate) fn drain_comlynx(
 pub(crate) fn drain_eversolar(
     reader: eversolar::Reader,
     port: u8,
-    line: &[u8],
+    piece: &[u8],
     out: &mut [u8],
 ) -> EversolarDrained
-    requires { ⌜ (1 ≤ port) × (port < 10) × (0 < length (now line)) × (length (now line) ≤ lineMax) × (roomLeast ≤ length (now out)) ⌝ }
-    ensures { λ r. ⌜ Drains EversolarMachine.next Eversolar.inRange showEversolar reader port (now (line .entry)) (now (out .entry)) (r .reader) (r .spoilt) (r .wrote) (r .messages) (r .damages) (now (out .exit)) ⌝ }
+    requires { ⌜ (1 ≤ port) × (port < 10) × (0 < length (now piece)) × (length (now piece) ≤ pieceMax) × (roomLeast ≤ length (now out)) ⌝ }
+    ensures { λ r. ⌜ Drains EversolarMachine.next Eversolar.inRange showEversolar reader port (now (piece .entry)) (now (out .entry)) (r .reader) (r .spoilt) (r .wrote) (r .messages) (r .damages) (now (out .exit)) ⌝ }
 {
     let mut lent = [0u8; LENT];
     let answer = eversolar::Answer::Done;
@@ -118,8 +118,8 @@ pub(crate) fn drain_eversolar(
     let mut messages: u64 = 0;
     let mut damages: u64 = 0;
     let mut at: usize = 0;
-    while at < line.len() {
-        s = s.reader.step(&line[at..], &mut lent);
+    while at < piece.len() {
+        s = s.reader.step(&piece[at..], &mut lent);
         at += s.used;
         let answer = s.answer;
         match answer {
@@ -151,11 +151,11 @@ pub(crate) fn drain_eversolar(
 pub(crate) fn drain_fronius(
     reader: fronius::Reader,
     port: u8,
-    line: &[u8],
+    piece: &[u8],
     out: &mut [u8],
 ) -> FroniusDrained
-    requires { ⌜ (1 ≤ port) × (port < 10) × (0 < length (now line)) × (length (now line) ≤ lineMax) × (roomLeast ≤ length (now out)) ⌝ }
-    ensures { λ r. ⌜ Drains FroniusMachine.next Fronius.inRange showFronius reader port (now (line .entry)) (now (out .entry)) (r .reader) (r .spoilt) (r .wrote) (r .messages) (r .damages) (now (out .exit)) ⌝ }
+    requires { ⌜ (1 ≤ port) × (port < 10) × (0 < length (now piece)) × (length (now piece) ≤ pieceMax) × (roomLeast ≤ length (now out)) ⌝ }
+    ensures { λ r. ⌜ Drains FroniusMachine.next Fronius.inRange showFronius reader port (now (piece .entry)) (now (out .entry)) (r .reader) (r .spoilt) (r .wrote) (r .messages) (r .damages) (now (out .exit)) ⌝ }
 {
     let mut lent = [0u8; LENT];
     let answer = fronius::Answer::Done;
@@ -169,8 +169,8 @@ pub(crate) fn drain_fronius(
     let mut messages: u64 = 0;
     let mut damages: u64 = 0;
     let mut at: usize = 0;
-    while at < line.len() {
-        s = s.reader.step(&line[at..], &mut lent);
+    while at < piece.len() {
+        s = s.reader.step(&piece[at..], &mut lent);
         at += s.used;
         let answer = s.answer;
         match answer {

@@ -8,14 +8,14 @@ use crate::drain::drain_fronius;
 use crate::shown::length_of;
 use answers::Refusal;
 use ports::Ports;
-use uplink::HEAD;
-use uplink::LINE_MAX;
+use uplink::LEAD;
+use uplink::PIECE_MAX;
 use uplink::Received;
 ghost use mathlib.Core.Path.{_≡_};
 ghost use Prim.Native.Nat.{_≤_};
 ghost use lib.ListN.{length};
-ghost use Rattle.answers.specs.Refusal.{told};
-ghost use Rattle.lines.specs.Lines.{endLine};
+ghost use Rattle.answers.specs.Refusal.{number as refusalNumber};
+ghost use Rattle.listing_text.specs.Lines.{endLine};
 ghost use Rattle.listing.specs.Steps.{roomLeast, refused, wantsMore, ends, IsFresh, IsStep};
 ghost use Rattle.listing.specs.Inside.{Put};
 ghost use Rattle.listing.specs.Entries.{lastLines};
@@ -74,7 +74,7 @@ fn in_range(packets: usize, messages: u64, damages: u64) -> bool
     if PACKETS_MAX < packets {
         return false;
     }
-    let most = (LINE_MAX * packets) as u64;
+    let most = (PIECE_MAX * packets) as u64;
     (messages <= most) & (damages <= most)
 }
 
@@ -112,7 +112,7 @@ fn put_stop(stop: u8, out: &mut [u8]) -> usize
     if stop == NO_STOP {
         return 0;
     }
-    length_of(lines::stop(stop, out))
+    length_of(listing_text::stop(stop, out))
 }
 
 // The line with the counts.
@@ -121,7 +121,7 @@ fn put_end(messages: u64, damages: u64, out: &mut [u8]) -> usize
     ensures { λ r. ⌜ Put (endLine messages damages) (now (out .entry)) r (now (out .exit)) ⌝ }
     ensures { λ r. ⌜ r ≤ endMost ⌝ }
 {
-    length_of(lines::end(messages, damages, out))
+    length_of(listing_text::end(messages, damages, out))
 }
 
 // The last lines.
@@ -159,7 +159,7 @@ fn over(l: Listing, stop: u8, out: &mut [u8]) -> Listed
 // A refused packet: one whose bytes are not all there yet may still be whole.
 fn no_packet(l: Listing, why: Refusal, ended: bool, out: &mut [u8]) -> Listed
     requires { ⌜ roomLeast ≤ length (now out) ⌝ }
-    ensures { λ r. ⌜ HandsBack l (noPacket l (told why) ended) (now (out .entry)) r (now (out .exit)) ⌝ }
+    ensures { λ r. ⌜ HandsBack l (noPacket l (refusalNumber why) ended) (now (out .entry)) r (now (out .exit)) ⌝ }
 {
     let n = why.number();
     if (n == Refusal::BytesMissing.number()) & !ended {
@@ -231,11 +231,11 @@ impl Listing {
                 count: _,
                 used,
             } => {
-                let line = &input[HEAD..used];
+                let piece = &input[LEAD..used];
                 if port == COMLYNX {
                     let mut ports = self.ports;
                     let reader = ports.comlynx;
-                    let d = drain_comlynx(reader, COMLYNX, line, out);
+                    let d = drain_comlynx(reader, COMLYNX, piece, out);
                     if d.spoilt {
                         return refused(self, Refusal::Spoilt);
                     }
@@ -245,12 +245,12 @@ impl Listing {
                     self.packets += 1;
                     self.messages += d.messages;
                     self.damages += d.damages;
-                    return taken(self, HEAD + line.len(), d.wrote);
+                    return taken(self, LEAD + piece.len(), d.wrote);
                 }
                 if port == EVERSOLAR {
                     let mut ports = self.ports;
                     let reader = ports.eversolar;
-                    let d = drain_eversolar(reader, EVERSOLAR, line, out);
+                    let d = drain_eversolar(reader, EVERSOLAR, piece, out);
                     if d.spoilt {
                         return refused(self, Refusal::Spoilt);
                     }
@@ -260,11 +260,11 @@ impl Listing {
                     self.packets += 1;
                     self.messages += d.messages;
                     self.damages += d.damages;
-                    return taken(self, HEAD + line.len(), d.wrote);
+                    return taken(self, LEAD + piece.len(), d.wrote);
                 }
                 let mut ports = self.ports;
                 let reader = ports.fronius;
-                let d = drain_fronius(reader, FRONIUS, line, out);
+                let d = drain_fronius(reader, FRONIUS, piece, out);
                 if d.spoilt {
                     return refused(self, Refusal::Spoilt);
                 }
@@ -274,7 +274,7 @@ impl Listing {
                 self.packets += 1;
                 self.messages += d.messages;
                 self.damages += d.damages;
-                taken(self, HEAD + line.len(), d.wrote)
+                taken(self, LEAD + piece.len(), d.wrote)
             }
             Received::Refused(why) => no_packet(self, why, ended, out),
         }

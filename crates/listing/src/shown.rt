@@ -24,49 +24,49 @@ pub(crate) fn length_of(w: Written) -> usize
 }
 
 // A ComLynx message, whose data stand at the front of `content`.
-pub(crate) fn comlynx_line(port: u8, h: comlynx::Header, content: &[u8], out: &mut [u8]) -> usize
-    requires { ⌜ (h .len ≤ lentLeast) × (h .len ≤ length (now content)) × (length (entryLine port (message (showComlynx (Comlynx.join h (now content))))) ≤ length (now out)) ⌝ }
-    ensures { λ r. ⌜ Put (entryLine port (message (showComlynx (Comlynx.join h (now (content .entry)))))) (now (out .entry)) r (now (out .exit)) ⌝ }
+pub(crate) fn comlynx_line(port: u8, h: comlynx::Header, payload: &[u8], out: &mut [u8]) -> usize
+    requires { ⌜ (h .len ≤ lentLeast) × (h .len ≤ length (now payload)) × (length (entryLine port (message (showComlynx (Comlynx.join h (now payload))))) ≤ length (now out)) ⌝ }
+    ensures { λ r. ⌜ Put (entryLine port (message (showComlynx (Comlynx.join h (now (payload .entry)))))) (now (out .entry)) r (now (out .exit)) ⌝ }
 {
     let from = [(h.source / 256) as u8, (h.source % 256) as u8];
     let to = [(h.destination / 256) as u8, (h.destination % 256) as u8];
     let code = [h.kind];
     let n = h.len;
-    length_of(lines::message(port, &from, &to, &code, &content[..n], out))
+    length_of(listing_text::message(port, &from, &to, &code, &payload[..n], out))
 }
 
 // An Eversolar message.
 pub(crate) fn eversolar_line(
     port: u8,
     h: eversolar::Header,
-    content: &[u8],
+    payload: &[u8],
     out: &mut [u8],
 ) -> usize
-    requires { ⌜ (h .len ≤ lentLeast) × (h .len ≤ length (now content)) × (length (entryLine port (message (showEversolar (Eversolar.join h (now content))))) ≤ length (now out)) ⌝ }
-    ensures { λ r. ⌜ Put (entryLine port (message (showEversolar (Eversolar.join h (now (content .entry)))))) (now (out .entry)) r (now (out .exit)) ⌝ }
+    requires { ⌜ (h .len ≤ lentLeast) × (h .len ≤ length (now payload)) × (length (entryLine port (message (showEversolar (Eversolar.join h (now payload))))) ≤ length (now out)) ⌝ }
+    ensures { λ r. ⌜ Put (entryLine port (message (showEversolar (Eversolar.join h (now (payload .entry)))))) (now (out .entry)) r (now (out .exit)) ⌝ }
 {
     let from = [h.source_first, h.source_second];
     let to = [h.destination_first, h.destination_second];
     let code = [h.control, h.function];
     let n = h.len;
-    length_of(lines::message(port, &from, &to, &code, &content[..n], out))
+    length_of(listing_text::message(port, &from, &to, &code, &payload[..n], out))
 }
 
 // A Fronius message, which comes from nobody.
-pub(crate) fn fronius_line(port: u8, h: fronius::Header, content: &[u8], out: &mut [u8]) -> usize
-    requires { ⌜ (h .len ≤ lentLeast) × (h .len ≤ length (now content)) × (length (entryLine port (message (showFronius (Fronius.join h (now content))))) ≤ length (now out)) ⌝ }
-    ensures { λ r. ⌜ Put (entryLine port (message (showFronius (Fronius.join h (now (content .entry)))))) (now (out .entry)) r (now (out .exit)) ⌝ }
+pub(crate) fn fronius_line(port: u8, h: fronius::Header, payload: &[u8], out: &mut [u8]) -> usize
+    requires { ⌜ (h .len ≤ lentLeast) × (h .len ≤ length (now payload)) × (length (entryLine port (message (showFronius (Fronius.join h (now payload))))) ≤ length (now out)) ⌝ }
+    ensures { λ r. ⌜ Put (entryLine port (message (showFronius (Fronius.join h (now (payload .entry)))))) (now (out .entry)) r (now (out .exit)) ⌝ }
 {
     let to = [h.device, h.number];
     let code = [h.command];
     let n = h.len;
-    length_of(lines::message(port, b"", &to, &code, &content[..n], out))
+    length_of(listing_text::message(port, b"", &to, &code, &payload[..n], out))
 }
 
 // A damage of any family.
 pub(crate) fn damage_line(port: u8, what: Damage, out: &mut [u8]) -> usize
-    requires { ⌜ length (entryLine port (damage (DamageNumber.told what))) ≤ length (now out) ⌝ }
-    ensures { λ r. ⌜ Put (entryLine port (damage (DamageNumber.told what))) (now (out .entry)) r (now (out .exit)) ⌝ }
+    requires { ⌜ length (entryLine port (damage (DamageNumber.number what))) ≤ length (now out) ⌝ }
+    ensures { λ r. ⌜ Put (entryLine port (damage (DamageNumber.number what))) (now (out .entry)) r (now (out .exit)) ⌝ }
 {
-    length_of(lines::damage(port, what.number(), out))
+    length_of(listing_text::damage(port, what.number(), out))
 }

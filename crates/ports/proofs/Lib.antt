@@ -1,4 +1,4 @@
-pub mod Rows
-pub mod Table
+pub mod EveryRow
+pub mod TableLaws
 pub mod Demands
 pub mod One

@@ -8,7 +8,7 @@ use mathlib.Core.List.{List, [], _∷_}
 use lib.ListN.{length}
 use Rattle.stream.specs.Call.{lentLeast}
 use Rattle.stream.specs.Family.{Call, Allowed}
-use Rattle.ports.specs.Ports.{Line, portMost, seatOf, lineOf, number, stepped, IsStep}
+use Rattle.ports.specs.Ports.{Seat, portMost, rowOf, seatAt, number, stepped, IsStep}
 use Rattle.ports.specs.declared.Ports.{Ports}
 use Rattle.ports.specs.declared.Step.{Step}
 
@@ -16,8 +16,8 @@ use Rattle.ports.specs.declared.Step.{Step}
 
 abbrev pub Apart : Type 0
 Apart =
-    (line : Line) (ports : Ports) (port : ℕ) (piece lent later : List ℕ) (r : Step) → IsStep ports port piece lent r later
-    → (lineOf port ≡ some line → ⊥) → seatOf line .get (r .ports) ≡ seatOf line .get ports
+    (seat : Seat) (ports : Ports) (port : ℕ) (piece lent later : List ℕ) (r : Step) → IsStep ports port piece lent r later
+    → (seatAt port ≡ some seat → ⊥) → rowOf seat .get (r .ports) ≡ rowOf seat .get ports
 
 -- ---- on each port the family's reader reads as it does alone, so that the demands of the family hold there, however the ports interleave
 
@@ -36,25 +36,25 @@ AllowedOn ports (c ∷ cs) =
     × AllowedOn (c .call .result .ports) cs
 
 -- a call on the ports, and a call of a line's reader: the same piece and buffers, and the result of the one is that of the other, put in its place
-pub record SameCall (line : Line) (c : Call Step) (own : Call (seatOf line .family .Result)) : Type 0 where
+pub record SameCall (seat : Seat) (c : Call Step) (own : Call (rowOf seat .family .Result)) : Type 0 where
   pub piece : c .piece ≡ own .piece
   pub lent : c .lent ≡ own .lent
-  pub result : c .result ≡ stepped line (c .result .ports) (own .result)
+  pub result : c .result ≡ stepped seat (c .result .ports) (own .result)
   pub later : c .later ≡ own .later
 
 -- of calls on any ports those on a line, in order, as calls of its reader
-pub data OwnCalls (line : Line) : List PortCall → List (Call (seatOf line .family .Result)) → Type 0 where
-  ends : OwnCalls line [] []
-  another : {c : PortCall} {cs : List PortCall} {owns : List (Call (seatOf line .family .Result))}
-      → (lineOf (c .port) ≡ some line → ⊥) → OwnCalls line cs owns → OwnCalls line (c ∷ cs) owns
-  its : {c : PortCall} {cs : List PortCall} {own : Call (seatOf line .family .Result)} {owns : List (Call (seatOf line .family .Result))}
-      → lineOf (c .port) ≡ some line → SameCall line (c .call) own → OwnCalls line cs owns → OwnCalls line (c ∷ cs) (own ∷ owns)
+pub data OwnCalls (seat : Seat) : List PortCall → List (Call (rowOf seat .family .Result)) → Type 0 where
+  ends : OwnCalls seat [] []
+  another : {c : PortCall} {cs : List PortCall} {owns : List (Call (rowOf seat .family .Result))}
+      → (seatAt (c .port) ≡ some seat → ⊥) → OwnCalls seat cs owns → OwnCalls seat (c ∷ cs) owns
+  its : {c : PortCall} {cs : List PortCall} {own : Call (rowOf seat .family .Result)} {owns : List (Call (rowOf seat .family .Result))}
+      → seatAt (c .port) ≡ some seat → SameCall seat (c .call) own → OwnCalls seat cs owns → OwnCalls seat (c ∷ cs) (own ∷ owns)
 
 -- they are calls that the family's own promise allows, from the reader that stands there
 abbrev pub EachAlone : Type 0
 EachAlone =
-    (line : Line) (ports : Ports) (cs : List PortCall) → AllowedOn ports cs
-    → (owns : List (Call (seatOf line .family .Result))) × OwnCalls line cs owns × Allowed (seatOf line .family) (seatOf line .get ports) owns
+    (seat : Seat) (ports : Ports) (cs : List PortCall) → AllowedOn ports cs
+    → (owns : List (Call (rowOf seat .family .Result))) × OwnCalls seat cs owns × Allowed (rowOf seat .family) (rowOf seat .get ports) owns
 
 -- ---- refusals
 

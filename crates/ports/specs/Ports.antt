@@ -8,7 +8,7 @@ use mathlib.Core.List.{List, [], _∷_}
 use lib.Dec.{eqb}
 use Rattle.answers.specs.Refusal as Refusal
 use Rattle.answers.specs.Damage as Damage
-use Rattle.answers.specs.declared.Refusal.the-variants.{WrongPort}
+use Rattle.answers.specs.declared.Refusal.the-variants.{WrongPortOrCount}
 use Rattle.stream.specs.Event.{Event}
 use Rattle.stream.specs.Pieces.{Moved}
 use Rattle.stream.specs.Family.{Family}
@@ -27,7 +27,7 @@ use Rattle.fronius.specs.Reader as FroniusReader
 use Rattle.fronius.specs.Demands.{fronius}
 use Rattle.fronius.specs.declared.reader.Answer as FroniusAnswer
 use Rattle.fronius.specs.declared.reader.Answer.the-variants as OfFronius
-use Rattle.lines.specs.Lines.{Shown}
+use Rattle.listing_text.specs.Lines.{Shown}
 use Rattle.ports.specs.Shown.{showComlynx, showEversolar, showFronius}
 use Rattle.ports.specs.declared.Ports.{Ports}
 use Rattle.ports.specs.declared.Step.{Step}
@@ -60,31 +60,31 @@ number Done = 0
 number (ComLynx h) = 1
 number (Eversolar h) = 1
 number (Fronius h) = 1
-number (Damaged what) = Damage.told what
-number (Refused why) = Refusal.told why
+number (Damaged what) = Damage.number what
+number (Refused why) = Refusal.number why
 
 -- ---- THE ONE TABLE OF PORTS: a row a port. Everything above goes by it
 
-pub data Line : Type 0 where
-  comlynxLine : Line
-  eversolarLine : Line
-  froniusLine : Line
+pub data Seat : Type 0 where
+  comlynxSeat : Seat
+  eversolarSeat : Seat
+  froniusSeat : Seat
 
 -- all of them
-abbrev pub lines : List Line
-lines = comlynxLine ∷ eversolarLine ∷ froniusLine ∷ []
+abbrev pub seats : List Seat
+seats = comlynxSeat ∷ eversolarSeat ∷ froniusSeat ∷ []
 
 -- the ports are 1 to 3
 abbrev pub portMost : ℕ
 portMost = 3
 
 -- a number for each line, summed
-abbrev pub sumOver : List Line → (Line → ℕ) → ℕ
+abbrev pub sumOver : List Seat → (Seat → ℕ) → ℕ
 sumOver [] n = 0
 sumOver (l ∷ ls) n = n l + sumOver ls n
 
 -- a row: its port, the family that sits there,
-pub record Seat : Type 1 where
+pub record Row : Type 1 where
   pub port : ℕ
   pub family : Family
   -- the family's machine, its states in range, how its messages are shown,
@@ -99,8 +99,8 @@ pub record Seat : Type 1 where
   pub answer : family .Result → Answer
   pub used : family .Result → ℕ
 
-abbrev pub seatOf : Line → Seat
-seatOf comlynxLine = record {
+abbrev pub rowOf : Seat → Row
+rowOf comlynxSeat = record {
   port = 1;
   family = comlynx;
   next = ComlynxMachine.next;
@@ -112,7 +112,7 @@ seatOf comlynxLine = record {
   answer = λ r. comlynxAnswer (r .answer);
   used = λ r. r .used;
 }
-seatOf eversolarLine = record {
+rowOf eversolarSeat = record {
   port = 2;
   family = eversolar;
   next = EversolarMachine.next;
@@ -124,7 +124,7 @@ seatOf eversolarLine = record {
   answer = λ r. eversolarAnswer (r .answer);
   used = λ r. r .used;
 }
-seatOf froniusLine = record {
+rowOf froniusSeat = record {
   port = 3;
   family = fronius;
   next = FroniusMachine.next;
@@ -138,33 +138,33 @@ seatOf froniusLine = record {
 }
 
 -- the line of a port, if it has one
-abbrev pub lineAmong : List Line → ℕ → Option Line
-lineAmong [] port = none
-lineAmong (l ∷ ls) port = cond (eqb port (seatOf l .port)) (some l) (lineAmong ls port)
+abbrev pub seatAmong : List Seat → ℕ → Option Seat
+seatAmong [] port = none
+seatAmong (l ∷ ls) port = cond (eqb port (rowOf l .port)) (some l) (seatAmong ls port)
 
-unfoldable pub lineOf : ℕ → Option Line
-lineOf port = lineAmong lines port
+unfoldable pub seatAt : ℕ → Option Seat
+seatAt port = seatAmong seats port
 
 -- ---- the promises
 
 -- what `Ports::fresh` promises: every reader before its first byte
 abbrev pub IsFresh : Ports → Type 0
-IsFresh r = (line : Line) → seatOf line .get r ≡ seatOf line .family .fresh
+IsFresh r = (seat : Seat) → rowOf seat .get r ≡ rowOf seat .family .fresh
 
 -- the result of a call on a line: that of its reader's call, with the reader that it handed back put in its place
-abbrev pub stepped : (line : Line) → Ports → seatOf line .family .Result → Step
-stepped line ports s = record { ports = seatOf line .put ports (seatOf line .reader s); answer = seatOf line .answer s; used = seatOf line .used s }
+abbrev pub stepped : (seat : Seat) → Ports → rowOf seat .family .Result → Step
+stepped seat ports s = record { ports = rowOf seat .put ports (rowOf seat .reader s); answer = rowOf seat .answer s; used = rowOf seat .used s }
 
 -- 12, nothing used, all unchanged
 abbrev pub refused : Ports → Step
-refused ports = record { ports = ports; answer = Refused WrongPort; used = 0 }
+refused ports = record { ports = ports; answer = Refused WrongPortOrCount; used = 0 }
 
 -- a call on a line: there is a call of its reader that its family's promise allows, and this is the result of that; on no line: refused
-abbrev pub StepsOn : Option Line → Ports → List ℕ → List ℕ → Step → List ℕ → Type 0
+abbrev pub StepsOn : Option Seat → Ports → List ℕ → List ℕ → Step → List ℕ → Type 0
 StepsOn none ports piece lent r later = (r ≡ refused ports) × (later ≡ lent)
-StepsOn (some line) ports piece lent r later =
-    (s : seatOf line .family .Result) × seatOf line .family .Steps (seatOf line .get ports) piece lent s later × (r ≡ stepped line ports s)
+StepsOn (some seat) ports piece lent r later =
+    (s : rowOf seat .family .Result) × rowOf seat .family .Steps (rowOf seat .get ports) piece lent s later × (r ≡ stepped seat ports s)
 
 -- what `Ports::step` promises, of the readers, port, piece, lent buffer, result and the buffer afterwards
 abbrev pub IsStep : Ports → ℕ → List ℕ → List ℕ → Step → List ℕ → Type 0
-IsStep ports port = StepsOn (lineOf port) ports
+IsStep ports port = StepsOn (seatAt port) ports

@@ -4,13 +4,13 @@ use mathlib.Core.List.{List, [], _∷_}
 use Rattle.comlynx.specs.Wire as Comlynx
 use Rattle.eversolar.specs.Wire as Eversolar
 use Rattle.fronius.specs.Wire as Fronius
-use Rattle.lines.specs.Lines.{Shown}
+use Rattle.listing_text.specs.Lines.{Shown}
 
 abbrev pub word : ℕ → List ℕ
 word w = w / 256 ∷ w % 256 ∷ []
 
 abbrev pub showComlynx : Comlynx.Message → Shown
-showComlynx m = record { from = word (m .source); to = word (m .destination); code = m .kind ∷ []; bytes = m .bytes }
+showComlynx m = record { from = word (m .source); to = word (m .destination); code = m .kind ∷ []; payload = m .payload }
 
 -- Eversolar's code is control and function
 abbrev pub showEversolar : Eversolar.Message → Shown
@@ -18,9 +18,9 @@ showEversolar m = record {
   from = m .sourceFirst ∷ m .sourceSecond ∷ [];
   to = m .destinationFirst ∷ m .destinationSecond ∷ [];
   code = m .control ∷ m .function ∷ [];
-  bytes = m .bytes;
+  payload = m .payload;
 }
 
 -- Fronius has `-` for from, and device with number for to
 abbrev pub showFronius : Fronius.Message → Shown
-showFronius m = record { from = []; to = m .device ∷ m .number ∷ []; code = m .command ∷ []; bytes = m .bytes }
+showFronius m = record { from = []; to = m .device ∷ m .number ∷ []; code = m .command ∷ []; payload = m .payload }

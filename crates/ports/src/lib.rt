@@ -129,7 +129,7 @@ impl Ports {
                 used: s.used,
             };
         }
-        let answer = Answer::Refused(Refusal::WrongPort);
+        let answer = Answer::Refused(Refusal::WrongPortOrCount);
         Step {
             ports: self,
             answer: answer,

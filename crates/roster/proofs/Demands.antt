@@ -17,11 +17,11 @@ use Rattle.roster.specs.Calls.{toldGiven, IsGiven}
 use Rattle.roster.specs.Demands.{freshRoster, GivenIsFound, GivenTwice, LowestFree, RemovedIsGiven, Fills, addressesFrom, NeverSpoilt, StaysWellFormed, Kept}
 use Rattle.roster.specs.declared.Place.{Place}
 use Rattle.roster.specs.declared.Given.{Given}
-use Rattle.roster.proofs.Bytes.{bytes-places, places-bytes}
-use Rattle.roster.proofs.Test.{Fine, not-spoilt, fine, sound-whole}
-use Rattle.roster.proofs.Rule.{no, first-found, some-pass, fine-free, freed-gone}
-use Rattle.roster.proofs.Told.{giving-of, giving-fits, gave-there, giving-fine, removing-fine, giving-refused, removing-refused, giving-18, removing-18, finding-18, finding-there, finding-of, removing-of}
-use Rattle.roster.proofs.Fills.{filling, filled, giving-full, told-over, fresh, fine-fresh}
+use Rattle.roster.proofs.PlacesInBytes.{bytes-places, places-bytes}
+use Rattle.roster.proofs.SoundTest.{Fine, not-spoilt, fine, sound-whole}
+use Rattle.roster.proofs.RosterRule.{no, first-found, some-pass, fine-free, freed-gone}
+use Rattle.roster.proofs.AnswerSays.{giving-of, giving-fits, gave-there, giving-fine, removing-fine, giving-refused, removing-refused, giving-18, removing-18, finding-18, finding-there, finding-of, removing-of}
+use Rattle.roster.proofs.FillsFromFront.{filling, filled, giving-full, told-over, fresh, fine-fresh}
 
 -- the places that a sound list's bytes hold
 held-by : (ps : List Place) (later : List ℕ) → Fine ps → later ≡ bytesOf ps → placesOf later ≡ ps

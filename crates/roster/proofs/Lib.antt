@@ -1,9 +1,9 @@
-pub mod Bytes
-pub mod Search
-pub mod Test
-pub mod Ends
+pub mod PlacesInBytes
+pub mod SearchSteps
+pub mod SoundTest
+pub mod CallEnds
 pub mod One
-pub mod Rule
-pub mod Told
-pub mod Fills
+pub mod RosterRule
+pub mod AnswerSays
+pub mod FillsFromFront
 pub mod Demands

@@ -5,7 +5,7 @@ use mathlib.Core.Path.{_≡_, refl, sym, ap, _∙_}
 use mathlib.Core.List.{List}
 use native.Mathlib.Omega.{arith}
 use Rattle.answers.specs.Refusal as Refusal
-use Rattle.answers.proofs.Numbers.{refusal-alike, refusal-above}
+use Rattle.answers.proofs.NumbersHaveCases.{refusal-alike, refusal-above}
 use Rattle.roster.specs.Calls.{toldGiven, toldRemoved, toldFound, IsGiven, IsRemoved, IsFound}
 use Rattle.roster.specs.declared.Given.{Given}
 use Rattle.roster.specs.declared.Given.the-variants as Given
@@ -19,37 +19,37 @@ use Rattle.roster.specs.declared.Found.the-variants as Found
 pub given-alike : (a b : Given) → toldGiven a ≡ toldGiven b → a ≡ b
 given-alike (Given.Address m) (Given.Address n) e = cc
 given-alike (Given.Address m) (Given.Refused why) e =
-    let zero-told : 0 ≡ Refusal.told why = cc in
+    let zero-told : 0 ≡ Refusal.number why = cc in
     absurd (omega (arith, refusal-above why))
 given-alike (Given.Refused why) (Given.Address n) e =
-    let zero-told : Refusal.told why ≡ 0 = cc in
+    let zero-told : Refusal.number why ≡ 0 = cc in
     absurd (omega (arith, refusal-above why))
 given-alike (Given.Refused why) (Given.Refused reason) e =
-    let same : Refusal.told why ≡ Refusal.told reason = cc in
+    let same : Refusal.number why ≡ Refusal.number reason = cc in
     ap Given.Refused (refusal-alike why reason same)
 
 pub removed-alike : (a b : Removed) → toldRemoved a ≡ toldRemoved b → a ≡ b
 removed-alike Removed.Done Removed.Done e = refl
 removed-alike Removed.Done (Removed.Refused why) e =
-    let zero-told : 0 ≡ Refusal.told why = cc in
+    let zero-told : 0 ≡ Refusal.number why = cc in
     absurd (omega (arith, refusal-above why))
 removed-alike (Removed.Refused why) Removed.Done e =
-    let zero-told : Refusal.told why ≡ 0 = cc in
+    let zero-told : Refusal.number why ≡ 0 = cc in
     absurd (omega (arith, refusal-above why))
 removed-alike (Removed.Refused why) (Removed.Refused reason) e =
-    let same : Refusal.told why ≡ Refusal.told reason = cc in
+    let same : Refusal.number why ≡ Refusal.number reason = cc in
     ap Removed.Refused (refusal-alike why reason same)
 
 pub found-alike : (a b : Found) → toldFound a ≡ toldFound b → a ≡ b
 found-alike (Found.Address m) (Found.Address n) e = cc
 found-alike (Found.Address m) (Found.Refused why) e =
-    let zero-told : 0 ≡ Refusal.told why = cc in
+    let zero-told : 0 ≡ Refusal.number why = cc in
     absurd (omega (arith, refusal-above why))
 found-alike (Found.Refused why) (Found.Address n) e =
-    let zero-told : Refusal.told why ≡ 0 = cc in
+    let zero-told : Refusal.number why ≡ 0 = cc in
     absurd (omega (arith, refusal-above why))
 found-alike (Found.Refused why) (Found.Refused reason) e =
-    let same : Refusal.told why ≡ Refusal.told reason = cc in
+    let same : Refusal.number why ≡ Refusal.number reason = cc in
     ap Found.Refused (refusal-alike why reason same)
 
 -- ---- the calls

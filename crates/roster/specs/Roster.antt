@@ -7,7 +7,7 @@ use lib.ListN.{length, getD, set, replicate}
 use lib.Dec.{eqb, ltb}
 use Rattle.answers.specs.Answer.{Answer, answer}
 use Rattle.answers.specs.Refusal.{refused}
-use Rattle.answers.specs.declared.Refusal.the-variants.{RosterFull, OutOfRange, Unfit, Spoilt}
+use Rattle.answers.specs.declared.Refusal.the-variants.{RosterFull, WrongAddressOrExponentTooLow, NotForThisCall, Spoilt}
 use Rattle.roster.specs.declared.Place.{Place}
 
 -- There are 254 places, one for each address,
@@ -81,7 +81,7 @@ givingSound ps serial =
 unfoldable pub giving : List Place → List ℕ → Answer × List Place
 giving ps serial =
     cond (spoilt ps) (refused 1 Spoilt, ps)
-    (cond (unfit serial) (refused 1 Unfit, ps)
+    (cond (unfit serial) (refused 1 NotForThisCall, ps)
     (givingSound ps serial))
 
 -- address 0, 255 or free
@@ -92,13 +92,13 @@ noneAt ps address = eqb address 0 || (ltb places address || free (getD ps (addre
 unfoldable pub removing : List Place → ℕ → Answer × List Place
 removing ps address =
     cond (spoilt ps) (refused 0 Spoilt, ps)
-    (cond (noneAt ps address) (refused 0 OutOfRange, ps)
+    (cond (noneAt ps address) (refused 0 WrongAddressOrExponentTooLow, ps)
     (answer 0 [], set ps (address - 1) freePlace))
 
 -- Finding tells the address of a serial, 0 where none has it, and changes nothing.
 unfoldable pub finding : List Place → List ℕ → Answer
 finding ps serial =
     cond (spoilt ps) (refused 1 Spoilt)
-    (cond (unfit serial) (refused 1 Unfit)
+    (cond (unfit serial) (refused 1 NotForThisCall)
     (cond (none (usedBy serial) ps) (answer 0 (0 ∷ []))
     (answer 0 ((first (usedBy serial) ps + 1) ∷ []))))

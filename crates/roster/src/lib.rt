@@ -186,7 +186,7 @@ pub fn give(roster: &mut [u8], serial: &[u8]) -> Given
         return Given::Refused(Refusal::Spoilt);
     }
     if serial.len() != SERIAL_SIZE {
-        return Given::Refused(Refusal::Unfit);
+        return Given::Refused(Refusal::NotForThisCall);
     }
     give_sound(roster, serial)
 }
@@ -215,7 +215,7 @@ pub fn remove(roster: &mut [u8], address: u8) -> Removed
         return Removed::Refused(Refusal::Spoilt);
     }
     if none_at(&*roster, address) {
-        return Removed::Refused(Refusal::OutOfRange);
+        return Removed::Refused(Refusal::WrongAddressOrExponentTooLow);
     }
     let k = address as usize - 1;
     let zeros = [0; SERIAL_SIZE];
@@ -231,7 +231,7 @@ pub fn find(roster: &[u8], serial: &[u8]) -> Found
         return Found::Refused(Refusal::Spoilt);
     }
     if serial.len() != SERIAL_SIZE {
-        return Found::Refused(Refusal::Unfit);
+        return Found::Refused(Refusal::NotForThisCall);
     }
     let k = user(roster, 0, serial);
     if k == PLACES {

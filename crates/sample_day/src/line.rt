@@ -20,7 +20,7 @@ const CAME_OUT: usize = 9;
 
 const SIZE: usize = 10;
 
-const DATA: usize = 11;
+const PAYLOAD: usize = 11;
 
 const DATA_MAX: usize = 255;
 
@@ -38,21 +38,21 @@ pub(crate) fn length_of(w: Written) -> usize {
     }
 }
 
-fn noise(data: &[u8], room: &mut [u8]) -> Written {
-    if room.len() < data.len() {
+fn noise(payload: &[u8], room: &mut [u8]) -> Written {
+    if room.len() < payload.len() {
         return Written::Refused(Refusal::NoRoom);
     }
-    Written::Done(bytes::copy(data, room))
+    Written::Done(bytes::copy(payload, room))
 }
 
 // Writes the message of a record by the writer of a family, or the bytes that nobody sent.
-fn write(who: u8, header: &[u8], data: &[u8], room: &mut [u8]) -> Written {
+fn write(who: u8, header: &[u8], payload: &[u8], room: &mut [u8]) -> Written {
     match who {
         1 => comlynx::write(
             word_at(header, 0),
             word_at(header, 2),
             byte_at(header, 4),
-            data,
+            payload,
             room,
         ),
         2 => eversolar::write(
@@ -62,17 +62,17 @@ fn write(who: u8, header: &[u8], data: &[u8], room: &mut [u8]) -> Written {
             byte_at(header, 3),
             byte_at(header, 4),
             byte_at(header, 5),
-            data,
+            payload,
             room,
         ),
         3 => fronius::write(
             byte_at(header, 0),
             byte_at(header, 1),
             byte_at(header, 2),
-            data,
+            payload,
             room,
         ),
-        _ => noise(data, room),
+        _ => noise(payload, room),
     }
 }
 
@@ -84,11 +84,11 @@ fn change(line: &mut [u8], at: usize, to: u8) {
 
 // Changes the byte of a record that the line changed, the record's bytes being at a place of the line.
 fn damage(line: &mut [u8], at: usize, record: &[u8]) {
-    let place = size_at(record, PLACE);
-    if place == UNCHANGED {
+    let changed = size_at(record, PLACE);
+    if changed == UNCHANGED {
         return;
     }
-    change(line, further(at, place), byte_at(record, CAME_OUT));
+    change(line, further(at, changed), byte_at(record, CAME_OUT));
 }
 
 // Puts a record's bytes on the line, at a place. Answers the place behind them.
@@ -99,7 +99,7 @@ fn put(line: &mut [u8], at: usize, record: &[u8]) -> usize {
     let w = write(
         byte_at(record, WRITER),
         part(record, HEADER, 6),
-        part(record, DATA, DATA_MAX),
+        part(record, PAYLOAD, DATA_MAX),
         &mut line[at..],
     );
     let n = length_of(w);
@@ -120,7 +120,7 @@ pub(crate) fn fill(line: &mut [u8], day: &[u8], port: u8) -> usize {
     let mut next: usize = 0;
     let mut records: usize = 0;
     while records < RECORDS {
-        let size = further(DATA, size_at(day, further(next, SIZE)));
+        let size = further(PAYLOAD, size_at(day, further(next, SIZE)));
         at = put_for(port, line, at, part(day, next, size));
         next = further(next, size);
         records += 1;

@@ -88,7 +88,7 @@ fn make_room(out: &[u8], at: usize) -> Filled
 fn start(out: &mut [u8]) -> usize
     ensures { λ r. ⌜ r ≤ length (now (out .entry)) ⌝ }
 {
-    let w = lines::head(out);
+    let w = listing_text::title(out);
     match w {
         answers::Written::Done(n) => n,
         answers::Written::Refused(_) => 0,

@@ -9,19 +9,19 @@ use lib.ListN.{length, take, drop, length-drop, take-append-drop, drop-of-length
 use lib.Dec.{T, ltb}
 use lib.Pow.{areBytes}
 use native.Mathlib.Omega.{arith}
-use Rattle.stream.specs.Event.{Event, message, Told, done, gives, refuses, told}
+use Rattle.stream.specs.Event.{Event, message, Told, done, gives, refuses, outcome}
 use Rattle.stream.specs.Pieces.{Moved, Called, scan}
 use Rattle.stream.specs.Call.{Seen, lentLeast, refused, answered, called}
 use Rattle.stream.specs.Written.{written, ended, Each}
-use Rattle.stream.specs.Rule.{Placed, andOn, firstReadings, readings}
+use Rattle.stream.specs.Rule.{Settled, andOn, firstReadings, readings}
 use Rattle.stream.specs.Family.{Family, Call, toldBefore, sees, Allowed, used, toldFrom, Serves, ends, turns, calls}
 use Rattle.stream.specs.Demands.{asTold, Accepts, ReadsBack, Handed, InPieces, UsedUp, Different, Kept, NeverSpoilt}
-use Rattle.stream.proofs.Bytes.{bytes-append, bytes-drop}
-use Rattle.stream.proofs.Run.{placedBefore, events, placed, placed-events, scan-placed}
-use Rattle.stream.proofs.Loop.{scan-used, scan-uses, scan-none, scan-front}
-use Rattle.stream.proofs.Written.{Reads, all-given, given, told-apart}
-use Rattle.stream.proofs.Call.{in-room}
-use Rattle.stream.proofs.Facts.{found, Facts}
+use Rattle.stream.proofs.BytesOfParts.{bytes-append, bytes-drop}
+use Rattle.stream.proofs.CallsComeTo.{settledBefore, events, settledIn, settledIn-events, scan-settledIn}
+use Rattle.stream.proofs.LoopScans.{scan-used, scan-uses, scan-none, scan-front}
+use Rattle.stream.proofs.WrittenIsGiven.{Reads, all-given, given, told-apart}
+use Rattle.stream.proofs.PromiseOfStep.{in-room}
+use Rattle.stream.proofs.FamilyFacts.{found, Facts}
 
 -- ---- what is told by different names is different
 
@@ -34,7 +34,7 @@ gives-refuses h = let z : _≡_ {A = ℕ} 0 1 = cc in omega arith
 nine-eighteen : {M : Type 0} → _≡_ {A = Told M} (refuses 9) (refuses 18) → ⊥
 nine-eighteen h = let z : _≡_ {A = ℕ} 9 18 = cc in omega arith
 
-told-done : {M : Type 0} (o : Option (Event M)) → told o ≡ done → o ≡ none
+told-done : {M : Type 0} (o : Option (Event M)) → outcome o ≡ done → o ≡ none
 told-done none h = refl
 told-done (some e) h = let z : _≡_ {A = ℕ} 0 1 = cc in absurd (omega arith)
 
@@ -57,8 +57,8 @@ module _ {S M : Type 0} (next : S → ℕ → Moved S (Event M)) (inRange : S �
       go : (t u : Bool) (o : Option (Event M)) → scan next s piece .event ≡ o → cond t (cond u (refused {M = M} 9 s) (answered (scan next s piece))) (refused 18 s) .told ≡ refuses n
           → (cond t (cond u (refused {M = M} 9 s) (answered (scan next s piece))) (refused 18 s) .state ≡ s) × (cond t (cond u (refused {M = M} 9 s) (answered (scan next s piece))) (refused 18 s) .used ≡ 0)
       go true true o e h = (refl, refl)
-      go true false none e h = absurd (done-refuses (ap told (sym e) ∙ h))
-      go true false (some x) e h = absurd (gives-refuses (ap told (sym e) ∙ h))
+      go true false none e h = absurd (done-refuses (ap outcome (sym e) ∙ h))
+      go true false (some x) e h = absurd (gives-refuses (ap outcome (sym e) ∙ h))
       go false u o e h = (refl, refl)
 
   not-spoilt : (called next inRange s piece lent .told ≡ refuses 18 → ⊥) → inRange s ≡ true
@@ -73,26 +73,26 @@ module _ {S M : Type 0} (next : S → ℕ → Moved S (Event M)) (inRange : S �
     where
       go : (u : Bool) (o : Option (Event M)) → scan next s piece .event ≡ o → cond u (refused {M = M} 9 s) (answered (scan next s piece)) .told ≡ refuses 18 → ⊥
       go true o e h = nine-eighteen h
-      go false none e h = done-refuses (ap told (sym e) ∙ h)
-      go false (some x) e h = gives-refuses (ap told (sym e) ∙ h)
+      go false none e h = done-refuses (ap outcome (sym e) ∙ h)
+      go false (some x) e h = gives-refuses (ap outcome (sym e) ∙ h)
 
 -- ---- what is told is what the bytes used come to, each event at its place
 
-told-placed : {M : Type 0} (o : Option (Event M)) (at : ℕ) (ps : List (Placed (Event M))) → toldBefore (told o) at (map asTold ps) ≡ map asTold (placedBefore o at ps)
-told-placed none at ps = refl
-told-placed (some e) at ps = refl
+told-settledIn : {M : Type 0} (o : Option (Event M)) (at : ℕ) (ps : List (Settled (Event M))) → toldBefore (outcome o) at (map asTold ps) ≡ map asTold (settledBefore o at ps)
+told-settledIn none at ps = refl
+told-settledIn (some e) at ps = refl
 
 -- ---- an event that a call found is the one that the rule found
 
-found-some : {E : Type 0} (o : Option E) (u : ℕ) (p : Placed E) → found o u ≡ some p → (o ≡ some (p .event)) × (u ≡ p .place)
+found-some : {E : Type 0} (o : Option E) (u : ℕ) (p : Settled E) → found o u ≡ some p → (o ≡ some (p .event)) × (u ≡ p .used)
 found-some none u p h = let z : _≡_ {A = ℕ} 0 1 = cc in absurd (omega arith)
 found-some (some e) u p h = (cc, cc)
 
 -- what a call found, and what the bytes after it come to, is what the rule finds, and goes on to find
-found-on : {E : Type 0} (o : Option E) (at u : ℕ) (more : List (Placed E)) (later : ℕ → List (Placed E))
-    → (o ≡ none → more ≡ []) → ((e : E) → o ≡ some e → more ≡ later u) → placedBefore o (at + u) more ≡ andOn at (found o u) later
+found-on : {E : Type 0} (o : Option E) (at u : ℕ) (more : List (Settled E)) (later : ℕ → List (Settled E))
+    → (o ≡ none → more ≡ []) → ((e : E) → o ≡ some e → more ≡ later u) → settledBefore o (at + u) more ≡ andOn at (found o u) later
 found-on none at u more later n g = n refl
-found-on (some e) at u more later n g = ap {B = List (Placed _)} (λ ps. record { event = e; place = at + u } ∷ ps) (g e refl)
+found-on (some e) at u more later n g = ap {B = List (Settled _)} (λ ps. record { event = e; used = at + u } ∷ ps) (g e refl)
 
 -- ---- each piece called on until it is used up
 
@@ -115,7 +115,7 @@ module _ (F : Family) (facts : Facts F) where
   shorter n s (b ∷ bs) h = simp length-drop (omega (arith, scan-uses (facts .next) s (b ∷ bs) (omega arith)))
 
   pub ruled : (n : ℕ) (bs : List ℕ) → length bs ≤ n → (known : F .Known) (s : F .State) → facts .At known s → T (areBytes bs) → (at : ℕ)
-      → placed (facts .next) at s bs ≡ firstReadings (F .rule) (F .afterEvent) n known at bs
+      → settledIn (facts .next) at s bs ≡ firstReadings (F .rule) (F .afterEvent) n known at bs
   ruled zero [] h known s a g at = refl
   ruled zero (b ∷ bs) h known s a g at = absurd (omega arith)
   ruled (suc n) bs h known s a g at =
@@ -123,22 +123,22 @@ module _ (F : Family) (facts : Facts F) where
       let f = facts .follows known s a bs g in
       let u = scan next s bs .used in
       let t = scan next s bs .state in
-      ap (placed next at s) (sym (take-append-drop u bs)) ∙ scan-placed next s bs (drop u bs) at
-      ∙ found-on (scan next s bs .event) at u (placed next (at + u) t (drop u bs)) (λ v. firstReadings (F .rule) (F .afterEvent) n (F .afterEvent) (at + v) (drop v bs))
-      (λ e. ap (placed next (at + u) t) (drop-of-length-le bs {i = u} (omega (arith, scan-none next s bs e))))
+      ap (settledIn next at s) (sym (take-append-drop u bs)) ∙ scan-settledIn next s bs (drop u bs) at
+      ∙ found-on (scan next s bs .event) at u (settledIn next (at + u) t (drop u bs)) (λ v. firstReadings (F .rule) (F .afterEvent) n (F .afterEvent) (at + v) (drop v bs))
+      (λ e. ap (settledIn next (at + u) t) (drop-of-length-le bs {i = u} (omega (arith, scan-none next s bs e))))
       (λ e p. ruled n (drop u bs) (shorter n s bs h) (F .afterEvent) t (f .goes-on e p) (bytes-drop u bs g) (at + u))
-      ∙ ap (λ (o : Option (Placed (Event (F .Message)))). andOn at o (λ v. firstReadings (F .rule) (F .afterEvent) n (F .afterEvent) (at + v) (drop v bs))) (sym (f .finds))
+      ∙ ap (λ (o : Option (Settled (Event (F .Message)))). andOn at o (λ v. firstReadings (F .rule) (F .afterEvent) n (F .afterEvent) (at + v) (drop v bs))) (sym (f .finds))
 
   -- and so without the places: from fresh, the events of the machine are those that the rule finds
   pub events-found : (bs : List ℕ) → T (areBytes bs)
       → events (facts .next) (F .fresh) bs ≡ map (λ p. p .event) (readings (F .rule) (F .afterEvent) (F .atStart) bs)
   events-found bs g =
-      sym (placed-events (facts .next) 0 (F .fresh) bs)
+      sym (settledIn-events (facts .next) 0 (F .fresh) bs)
       ∙ ap (map (λ p. p .event)) (ruled (length bs) bs (omega arith) (F .atStart) (F .fresh) (facts .at-start) g 0)
 
   -- what the calls told is what the machine makes of the bytes they used
   told-is : (cs : List (Call (F .Result))) (s : F .State) → facts .inRange s ≡ true → Allowed F s cs → (at : ℕ)
-      → toldFrom F at cs ≡ map asTold (placed (facts .next) at s (used F cs))
+      → toldFrom F at cs ≡ map asTold (settledIn (facts .next) at s (used F cs))
   told-is [] s r al at = refl
   told-is (c ∷ cs) s r al at =
       let next = facts .next in
@@ -146,10 +146,10 @@ module _ (F : Family) (facts : Facts F) where
       let kept = facts .stays-in-range s (c .piece) (c .lent) (c .later) (c .result) (al .1) r in
       let rest = told-is cs (sees F c .state) kept (al .2) (at + sees F c .used) in
       ap (toldBefore (sees F c .told) (at + sees F c .used)) rest
-      ∙ ap (λ (v : Seen (F .State) (F .Message)). toldBefore (v .told) (at + v .used) (map asTold (placed next (at + v .used) (v .state) (used F cs)))) one
-      ∙ told-placed (scan next s (c .piece) .event) _ _
-      ∙ ap (map asTold) (sym (scan-placed next s (c .piece) (used F cs) at))
-      ∙ ap (λ (v : Seen (F .State) (F .Message)). map asTold (placed next at s (take (v .used) (c .piece) ++ used F cs))) (sym one)
+      ∙ ap (λ (v : Seen (F .State) (F .Message)). toldBefore (v .told) (at + v .used) (map asTold (settledIn next (at + v .used) (v .state) (used F cs)))) one
+      ∙ told-settledIn (scan next s (c .piece) .event) _ _
+      ∙ ap (map asTold) (sym (scan-settledIn next s (c .piece) (used F cs) at))
+      ∙ ap (λ (v : Seen (F .State) (F .Message)). map asTold (settledIn next at s (take (v .used) (c .piece) ++ used F cs))) (sym one)
 
   pub accepts : Accepts F
   accepts cs al g =
@@ -194,7 +194,7 @@ module _ (F : Family) (facts : Facts F) where
   written-bytes [] g = tt
   written-bytes (m ∷ ms) g = bytes-append (F .wire m) (written (F .wire) ms) (facts .wire-bytes m (g .0)) (written-bytes ms (g .1))
 
-  told-events : (ps : List (Placed (Event (F .Message)))) → map (λ p. p .event) (map asTold ps) ≡ map gives (map (λ p. p .event) ps)
+  told-events : (ps : List (Settled (Event (F .Message)))) → map (λ p. p .event) (map asTold ps) ≡ map gives (map (λ p. p .event) ps)
   told-events [] = refl
   told-events (p ∷ ps) = ap {B = List (Told (F .Message))} (λ es. gives (p .event) ∷ es) (told-events ps)
 
@@ -206,8 +206,8 @@ module _ (F : Family) (facts : Facts F) where
   handed ms g n cs al cut =
       let next = facts .next in
       ap (map (λ p. p .event)) (told-is cs (F .fresh) (facts .fresh-in-range) al 0)
-      ∙ told-events (placed next 0 (F .fresh) (used F cs))
-      ∙ ap (map gives) (placed-events next 0 (F .fresh) (used F cs) ∙ ap (events next (F .fresh)) cut
+      ∙ told-events (settledIn next 0 (F .fresh) (used F cs))
+      ∙ ap (map gives) (settledIn-events next 0 (F .fresh) (used F cs) ∙ ap (events next (F .fresh)) cut
       ∙ given next (F .wire) message (F .Takes) Rest reads-at-rest (F .fresh) fresh-rests ms g n)
       ∙ told-messages (take (ended (F .wire) n ms) ms)
 

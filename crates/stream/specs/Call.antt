@@ -5,7 +5,7 @@ use mathlib.Core.Bool.{Bool, true, cond}
 use mathlib.Core.List.{List, _++_}
 use lib.ListN.{length, drop}
 use lib.Dec.{ltb}
-use Rattle.stream.specs.Event.{Event, message, damage, Told, done, gives, refuses, told}
+use Rattle.stream.specs.Event.{Event, message, damage, Told, done, gives, refuses, outcome}
 use Rattle.stream.specs.Pieces.{Moved, Called, scan}
 
 -- what a call hands back: the next state, what it tells, and the number of bytes used
@@ -20,7 +20,7 @@ refused n s = record { state = s; told = refuses n; used = 0 }
 
 -- the piece, scanned
 abbrev pub answered : {S M : Type 0} → Called S (Event M) → Seen S M
-answered c = record { state = c .state; told = told (c .event); used = c .used }
+answered c = record { state = c .state; told = outcome (c .event); used = c .used }
 
 -- what a reader is to be lent at least
 abbrev pub lentLeast : ℕ
@@ -33,10 +33,10 @@ called next inRange s piece lent =
 
 -- the lent buffer afterwards: with a message its data at the front, the rest unchanged; with anything else as it was
 abbrev pub delivered : {M : Type 0} → (M → List ℕ) → Told M → List ℕ → List ℕ
-delivered bytes done lent = lent
-delivered bytes (gives (message m)) lent = bytes m ++ drop (length (bytes m)) lent
-delivered bytes (gives (damage n)) lent = lent
-delivered bytes (refuses n) lent = lent
+delivered payload done lent = lent
+delivered payload (gives (message m)) lent = payload m ++ drop (length (payload m)) lent
+delivered payload (gives (damage n)) lent = lent
+delivered payload (refuses n) lent = lent
 
 -- the same answer, told of a message by another name for it
 abbrev pub retold : {M N : Type 0} → (M → N) → Told M → Told N
@@ -53,9 +53,9 @@ retells f c = record { state = c .state; told = retold f (c .told); used = c .us
 -- a state in range: "18 is never given for a fresh state or one that a reader handed back with another answer"
 abbrev pub Steps : {S M H R : Type 0} → (S → ℕ → Moved S (Event M)) → (S → Bool) → (M → H) → (M → List ℕ) → (R → Seen S H)
     → S → List ℕ → List ℕ → R → List ℕ → Type 0
-Steps next inRange header bytes shown s piece lent r later =
+Steps next inRange header payload shown s piece lent r later =
     let c = called next inRange s piece lent in
-    (shown r ≡ retells header c) × (later ≡ delivered bytes (c .told) lent) × (inRange s ≡ true → inRange (shown r .state) ≡ true)
+    (shown r ≡ retells header c) × (later ≡ delivered payload (c .told) lent) × (inRange s ≡ true → inRange (shown r .state) ≡ true)
 
 -- what a host sees of a result: a message is its header joined with the data at the front of the lent buffer
 abbrev pub seenBy : {S M H R : Type 0} → (H → List ℕ → M) → (R → Seen S H) → R → List ℕ → Seen S M

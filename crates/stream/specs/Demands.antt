@@ -10,7 +10,7 @@ use Rattle.stream.specs.Event.{Event, message, Told, done, gives, refuse
 use Rattle.stream.specs.Pieces.{Moved, calls, feed}
 use Rattle.stream.specs.Call.{lentLeast}
 use Rattle.stream.specs.Written.{written, ended, Each}
-use Rattle.stream.specs.Rule.{Placed, readings}
+use Rattle.stream.specs.Rule.{Settled, readings}
 use Rattle.stream.specs.Family.{Family, Call, Allowed, used, toldFrom, Serves}
 
 -- ---- of any machine
@@ -27,8 +27,8 @@ module _ {S E : Type 0} (next : S → ℕ → Moved S E) where
 -- ---- of any family
 
 -- an event as a host is told it
-abbrev pub asTold : {M : Type 0} → Placed (Event M) → Placed (Told M)
-asTold p = record { event = gives (p .event); place = p .place }
+abbrev pub asTold : {M : Type 0} → Settled (Event M) → Settled (Told M)
+asTold p = record { event = gives (p .event); used = p .used }
 
 module _ (F : Family) where
   -- DEMAND 2. From fresh, whatever is handed over in whatever calls: what is told, and at which byte, is exactly what the rule finds

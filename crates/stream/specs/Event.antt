@@ -21,6 +21,6 @@ number (gives (damage n)) = n
 number (refuses n) = n
 
 -- what a call tells that came to this event, or to none
-abbrev pub told : {M : Type 0} → Option (Event M) → Told M
-told none = done
-told (some e) = gives e
+abbrev pub outcome : {M : Type 0} → Option (Event M) → Told M
+outcome none = done
+outcome (some e) = gives e

@@ -5,7 +5,7 @@ use mathlib.Core.List.{List, [], _∷_, _++_}
 use lib.ListN.{length, take, drop}
 use Rattle.stream.specs.Event.{Event, Told, done, gives, refuses}
 use Rattle.stream.specs.Call.{Seen, lentLeast}
-use Rattle.stream.specs.Rule.{Placed}
+use Rattle.stream.specs.Rule.{Settled}
 
 pub record Family : Type 1 where
   -- its messages, those that its writer takes, and the bytes of each on the wire
@@ -16,7 +16,7 @@ pub record Family : Type 1 where
   pub Known : Type 0
   pub atStart : Known
   pub afterEvent : Known
-  pub rule : Known → List ℕ → Option (Placed (Event Message))
+  pub rule : Known → List ℕ → Option (Settled (Event Message))
   -- its writer: the predicate that the promise of `write` names (message, lent buffer, result, buffer afterwards),
   -- and the length in a result that is no refusal
   pub Written : Type 0
@@ -38,10 +38,10 @@ pub record Call (R : Type 0) : Type 0 where
   pub later : List ℕ
 
 -- what is told, at its place, before what is told later; 0 is no news
-abbrev pub toldBefore : {M : Type 0} → Told M → ℕ → List (Placed (Told M)) → List (Placed (Told M))
-toldBefore done place later = later
-toldBefore (gives e) place later = record { event = gives e; place = place } ∷ later
-toldBefore (refuses n) place later = record { event = refuses n; place = place } ∷ later
+abbrev pub toldBefore : {M : Type 0} → Told M → ℕ → List (Settled (Told M)) → List (Settled (Told M))
+toldBefore done used later = later
+toldBefore (gives e) used later = record { event = gives e; used = used } ∷ later
+toldBefore (refuses n) used later = record { event = refuses n; used = used } ∷ later
 
 module _ (F : Family) where
   -- what the host sees of a call
@@ -60,7 +60,7 @@ module _ (F : Family) where
   used (c ∷ cs) = take (sees c .used) (c .piece) ++ used cs
 
   -- what they told, each with the number of bytes used up to then, where `at` were used before
-  abbrev pub toldFrom : ℕ → List (Call (F .Result)) → List (Placed (Told (F .Message)))
+  abbrev pub toldFrom : ℕ → List (Call (F .Result)) → List (Settled (Told (F .Message)))
   toldFrom at [] = []
   toldFrom at (c ∷ cs) = toldBefore (sees c .told) (at + sees c .used) (toldFrom (at + sees c .used) cs)
 

@@ -1,4 +1,4 @@
-pub mod Laws
-pub mod Accepted
+pub mod PacketTests
+pub mod AcceptedIsWritten
 pub mod Demands
 pub mod One

@@ -11,27 +11,27 @@ use Rattle.answers.specs.Written as Written
 use Rattle.answers.specs.declared.Refusal.{Refusal}
 use Rattle.answers.specs.declared.Written.{Written}
 use Rattle.answers.specs.declared.Written.the-variants.{Refused}
-use Rattle.uplink.specs.Packet.{headLength, lineMax, packet, takes, told, IsRead, IsWritten}
+use Rattle.uplink.specs.Packet.{leadLength, pieceMax, packet, takes, told, IsRead, IsWritten}
 use Rattle.uplink.specs.declared.Received.{Received}
 
 -- Whatever is written reads back: of the n bytes written, followed by any others, the reader can only tell this port,
 -- this line's length and n bytes used; and the line stands behind the head, up to n.
 abbrev pub ReadsBack : Type 0
 ReadsBack =
-    (port : ℕ) (line lent later rest : List ℕ) (w : Written) (n : ℕ)
-    → IsWritten port line lent w later
+    (port : ℕ) (piece lent later rest : List ℕ) (w : Written) (n : ℕ)
+    → IsWritten port piece lent w later
     → Written.told w ≡ answer 0 (n ∷ [])
-    → ((r : Received) → IsRead (take n later ++ rest) r → told r ≡ answer 0 (port ∷ length line ∷ n ∷ []))
-    × (slice headLength n (take n later ++ rest) ≡ line)
+    → ((r : Received) → IsRead (take n later ++ rest) r → told r ≡ answer 0 (port ∷ length piece ∷ n ∷ []))
+    × (slice leadLength n (take n later ++ rest) ≡ piece)
 
 -- s begins with the packet of a line of so many bytes for this port, one that the writer takes
 pub record Begins (s : List ℕ) (port count used : ℕ) : Type 0 where
-  pub line : List ℕ
+  pub piece : List ℕ
   pub rest : List ℕ
-  pub bytes : s ≡ packet port line ++ rest
-  pub counts : length line ≡ count
+  pub bytes : s ≡ packet port piece ++ rest
+  pub counts : length piece ≡ count
   pub taken : takes port count ≡ true
-  pub uses : used ≡ headLength + count
+  pub uses : used ≡ leadLength + count
 
 -- A packet is accepted exactly if it is one that the writer writes, with anything after it.
 abbrev pub Accepts : Type 0
@@ -43,16 +43,16 @@ Accepts =
 -- With a refusal the lent buffer is as it was.
 abbrev pub Kept : Type 0
 Kept =
-    (port : ℕ) (line lent later : List ℕ) (why : Refusal)
-    → IsWritten port line lent (Refused why) later
+    (port : ℕ) (piece lent later : List ℕ) (why : Refusal)
+    → IsWritten port piece lent (Refused why) later
     → later ≡ lent
 
 -- what a caller may count on with an accepted packet
 pub record Within (s : List ℕ) (port count used : ℕ) : Type 0 where
-  pub uses : used ≡ headLength + count
+  pub uses : used ≡ leadLength + count
   pub there : used ≤ length s
   pub some : 1 ≤ count
-  pub most : count ≤ lineMax
+  pub most : count ≤ pieceMax
   pub first : 1 ≤ port
   pub last : port ≤ 3
 

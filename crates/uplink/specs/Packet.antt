@@ -8,7 +8,7 @@ use lib.Dec.{leb, eqb}
 use Rattle.answers.specs.Answer.{Answer, answer}
 use Rattle.answers.specs.Refusal.{refused}
 use Rattle.answers.specs.Written as Written
-use Rattle.answers.specs.declared.Refusal.the-variants.{NoRoom, WrongMark, WrongVersion, WrongPort, BytesMissing}
+use Rattle.answers.specs.declared.Refusal.the-variants.{NoRoom, WrongMark, WrongVersion, WrongPortOrCount, BytesMissing}
 use Rattle.answers.specs.declared.Written.{Written}
 use Rattle.uplink.specs.declared.Received.{Received}
 use Rattle.uplink.specs.declared.Received.the-variants.{Packet, Refused}
@@ -26,22 +26,22 @@ unfoldable pub known : ℕ → Bool
 known version = eqb version (versionOf 1)
 
 -- count 1 to 240,
-abbrev pub lineMax : ℕ
-lineMax = 240
+abbrev pub pieceMax : ℕ
+pieceMax = 240
 
 unfoldable pub counted : ℕ → Bool
-counted count = leb 1 count && leb count lineMax
+counted count = leb 1 count && leb count pieceMax
 
 -- The seven bytes before the line: mark, version (high byte first), port, count;
-abbrev pub headLength : ℕ
-headLength = 7
+abbrev pub leadLength : ℕ
+leadLength = 7
 
-abbrev pub head : ℕ → ℕ → ℕ → List ℕ
-head version port count = mark ++ (version / 256 ∷ version % 256 ∷ port ∷ count ∷ [])
+abbrev pub lead : ℕ → ℕ → ℕ → List ℕ
+lead version port count = mark ++ (version / 256 ∷ version % 256 ∷ port ∷ count ∷ [])
 
 -- then that many line bytes.
 abbrev pub packet : ℕ → List ℕ → List ℕ
-packet port line = head (versionOf port) port (length line) ++ line
+packet port piece = lead (versionOf port) port (length piece) ++ piece
 
 -- A test: where it holds, what follows decides; else this is the answer.
 abbrev pub need : {A : Type 0} → Bool → A → A → A
@@ -68,12 +68,12 @@ carried s = eqb (versionOf (portIn s)) (versionIn s) && counted (countIn s)
 -- With 0 port, count and bytes used (7 plus count).
 unfoldable pub packetAt : List ℕ → Answer
 packetAt s =
-    need (leb headLength (length s)) (refused 3 BytesMissing)
+    need (leb leadLength (length s)) (refused 3 BytesMissing)
     (need (marked s) (refused 3 WrongMark)
     (need (known (versionIn s)) (refused 3 WrongVersion)
-    (need (carried s) (refused 3 WrongPort)
-    (need (leb (headLength + countIn s) (length s)) (refused 3 BytesMissing)
-    (answer 0 (portIn s ∷ countIn s ∷ (headLength + countIn s) ∷ []))))))
+    (need (carried s) (refused 3 WrongPortOrCount)
+    (need (leb (leadLength + countIn s) (length s)) (refused 3 BytesMissing)
+    (answer 0 (portIn s ∷ countIn s ∷ (leadLength + countIn s) ∷ []))))))
 
 abbrev pub told : Received → Answer
 told (Packet port count used) = answer 0 (port ∷ count ∷ used ∷ [])
@@ -90,11 +90,11 @@ takes port count = known (versionOf port) && counted count
 -- The packet writer tests 12, then 9 (room below the exact written length);
 -- with 0 it answers the length. What it tells, and what then stands in the lent buffer:
 unfoldable pub written : ℕ → List ℕ → List ℕ → Answer × List ℕ
-written port line lent =
-    need (takes port (length line)) (refused 1 WrongPort, lent)
-    (need (leb (headLength + length line) (length lent)) (refused 1 NoRoom, lent)
-    (answer 0 ((headLength + length line) ∷ []), packet port line ++ drop (headLength + length line) lent))
+written port piece lent =
+    need (takes port (length piece)) (refused 1 WrongPortOrCount, lent)
+    (need (leb (leadLength + length piece) (length lent)) (refused 1 NoRoom, lent)
+    (answer 0 ((leadLength + length piece) ∷ []), packet port piece ++ drop (leadLength + length piece) lent))
 
 -- what `write` promises of its arguments, its result and the later content of the lent buffer
 abbrev pub IsWritten : ℕ → List ℕ → List ℕ → Written → List ℕ → Type 0
-IsWritten port line lent w later = (Written.told w ≡ written port line lent .0) × (later ≡ written port line lent .1)
+IsWritten port piece lent w later = (Written.told w ≡ written port piece lent .0) × (later ≡ written port piece lent .1)

@@ -5,16 +5,16 @@ ghost use mathlib.Core.Path.{_≡_};
 ghost use Prim.Native.Nat.{_+_, _*_, _≤_};
 ghost use lib.ListN.{length};
 ghost use lib.Seq.{sets};
-ghost use Rattle.uplink.specs.Packet.{versionOf, known, counted, headLength, head, marked, IsRead, IsWritten};
+ghost use Rattle.uplink.specs.Packet.{versionOf, known, counted, leadLength, lead, marked, IsRead, IsWritten};
 
 // The packet's mark, compared by `read` and written by `write`.
 const MARK: [u8; 3] = *b"SBR";
 
 // The bytes before the line: mark, version, port and count.
-pub const HEAD: usize = 7;
+pub const LEAD: usize = 7;
 
 // The longest line of one packet.
-pub const LINE_MAX: usize = 240;
+pub const PIECE_MAX: usize = 240;
 
 // What the bytes at the front of a slice are read as.
 pub enum Received {
@@ -42,12 +42,12 @@ fn known(version: u16) -> bool
 fn counted(count: usize) -> bool
     ensures { λ r. ⌜ r ≡ counted count ⌝ }
 {
-    (1 <= count) & (count <= LINE_MAX)
+    (1 <= count) & (count <= PIECE_MAX)
 }
 
 // Whether the mark stands at the front of a whole head.
 fn marked(s: &[u8]) -> bool
-    requires { ⌜ headLength ≤ length (now s) ⌝ }
+    requires { ⌜ leadLength ≤ length (now s) ⌝ }
     ensures { λ r. ⌜ r ≡ marked (now (s .entry)) ⌝ }
 {
     (s[0] == MARK[0]) & (s[1] == MARK[1]) & (s[2] == MARK[2])
@@ -72,7 +72,7 @@ fn wide(byte: u8) -> usize
 pub fn read(s: &[u8]) -> Received
     ensures { λ r. ⌜ IsRead (now (s .entry)) r ⌝ }
 {
-    if s.len() < HEAD {
+    if s.len() < LEAD {
         return Received::Refused(Refusal::BytesMissing);
     }
     if !marked(s) {
@@ -86,9 +86,9 @@ pub fn read(s: &[u8]) -> Received
     let count = s[6];
     let n = wide(count);
     if !((version_of(port) == version) & counted(n)) {
-        return Received::Refused(Refusal::WrongPort);
+        return Received::Refused(Refusal::WrongPortOrCount);
     }
-    let used = HEAD + n;
+    let used = LEAD + n;
     if s.len() < used {
         return Received::Refused(Refusal::BytesMissing);
     }
@@ -96,9 +96,9 @@ pub fn read(s: &[u8]) -> Received
 }
 
 // Stores a packet's head at the front of `lent`.
-fn put_head(version: u16, port: u8, count: u8, lent: &mut [u8])
-    requires { ⌜ headLength ≤ length (now lent) ⌝ }
-    ensures { λ _. ⌜ now (lent .exit) ≡ sets (now (lent .entry)) 0 (head version port count) ⌝ }
+fn put_lead(version: u16, port: u8, count: u8, lent: &mut [u8])
+    requires { ⌜ leadLength ≤ length (now lent) ⌝ }
+    ensures { λ _. ⌜ now (lent .exit) ≡ sets (now (lent .entry)) 0 (lead version port count) ⌝ }
 {
     lent[0] = MARK[0];
     lent[1] = MARK[1];
@@ -110,19 +110,19 @@ fn put_head(version: u16, port: u8, count: u8, lent: &mut [u8])
 }
 
 // Writes the packet that carries `line` for `port` at the front of `lent`. Nothing is stored before every test has held.
-pub fn write(port: u8, line: &[u8], lent: &mut [u8]) -> Written
-    ensures { λ w. ⌜ IsWritten port (now (line .entry)) (now (lent .entry)) w (now (lent .exit)) ⌝ }
+pub fn write(port: u8, piece: &[u8], lent: &mut [u8]) -> Written
+    ensures { λ w. ⌜ IsWritten port (now (piece .entry)) (now (lent .entry)) w (now (lent .exit)) ⌝ }
 {
     let version = version_of(port);
-    let count = line.len();
+    let count = piece.len();
     if !(known(version) & counted(count)) {
-        return Written::Refused(Refusal::WrongPort);
+        return Written::Refused(Refusal::WrongPortOrCount);
     }
-    let used = HEAD + count;
+    let used = LEAD + count;
     if lent.len() < used {
         return Written::Refused(Refusal::NoRoom);
     }
-    put_head(version, port, count as u8, lent);
-    bytes::copy(line, &mut lent[HEAD..]);
+    put_lead(version, port, count as u8, lent);
+    bytes::copy(piece, &mut lent[LEAD..]);
     Written::Done(used)
 }

@@ -3,7 +3,7 @@ use mathlib.Core.List.{[], _∷_}
 use lib.Dec.{leb}
 use Rattle.answers.specs.Answer.{answer}
 use Rattle.comlynx_meaning.specs.Meaning.{wordOf}
-use Rattle.comlynx_meaning.proofs.Parts.{four-bits}
+use Rattle.comlynx_meaning.proofs.PartsThereAndBack.{four-bits}
 use Prim.Native.Nat.{ℕ}
 use mathlib.Core.Path.{_≡_, sym, _∙_, ap}
 use mathlib.Core.Bool.{true}

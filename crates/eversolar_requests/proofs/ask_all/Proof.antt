@@ -1,4 +1,4 @@
-use Rattle.eversolar_requests.proofs.Requested.{asks-all}
+use Rattle.eversolar_requests.proofs.BuilderEnds.{asks-all}
 use borrow.Author.Needs.{needs}
 use Rattle.eversolar_requests.proofs.ask_all.Statement.{statement}
 use Rattle.eversolar_requests.proofs.ask_all.Tie as tie

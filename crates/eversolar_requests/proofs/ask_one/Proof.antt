@@ -1,5 +1,5 @@
 use borrow.Author.Tests.{not-true, not-false}
-use Rattle.eversolar_requests.proofs.Requested.{asks-one-16, asks-one}
+use Rattle.eversolar_requests.proofs.BuilderEnds.{asks-one-16, asks-one}
 use mathlib.Core.Path.{sym, _∙_}
 use borrow.Author.Needs.{needs}
 use Rattle.eversolar_requests.proofs.ask_one.Statement.{statement}

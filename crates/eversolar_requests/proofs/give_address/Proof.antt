@@ -1,6 +1,6 @@
 use borrow.Author.Tests.{not-true, not-false}
 use Rattle.eversolar_requests.specs.Requests.{isAddress}
-use Rattle.eversolar_requests.proofs.Requested.{gives-16, gives-17, gives}
+use Rattle.eversolar_requests.proofs.BuilderEnds.{gives-16, gives-17, gives}
 use mathlib.Core.Path.{_≡_, sym, _∙_}
 use mathlib.Core.Bool.{true}
 use borrow.Author.Needs.{needs}
@@ -29,8 +29,8 @@ slice-aggregate-copy c = search needs
 copy-requires : tie.Need-copy-requires
 copy-requires c κs = search needs
 
-array-write-data : tie.Need-array-write-data
-array-write-data c = search needs
+array-write-payload : tie.Need-array-write-payload
+array-write-payload c = search needs
 
 slice-aggregate-from-master : tie.Need-slice-aggregate-from-master
 slice-aggregate-from-master c = search needs
@@ -58,7 +58,7 @@ give-address-spec =
     returns-2
     slice-aggregate-copy
     copy-requires
-    array-write-data
+    array-write-payload
     slice-aggregate-from-master
     from-master-requires
     same-length

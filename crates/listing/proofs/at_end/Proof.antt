@@ -4,7 +4,7 @@ use mathlib.Core.Path.{refl, ap}
 use denote.Ref.{now}
 use Rattle.listing.specs.Steps.{wantsMore}
 use Rattle.listing.specs.Making.{atEnd, stopOf, finish}
-use Rattle.listing.proofs.Making.{nothing}
+use Rattle.listing.proofs.StepMakes.{nothing}
 use borrow.Author.Needs.{needs}
 use Rattle.listing.proofs.at_end.Statement.{statement}
 use Rattle.listing.proofs.at_end.Tie as tie

@@ -5,11 +5,11 @@ use mathlib.Core.Path.{_≡_, refl, ap, _∙_}
 use mathlib.Core.Bool.{_&&_, not}
 use lib.Dec.{eqb}
 use denote.Ref.{now}
-use Rattle.answers.specs.Refusal.{told}
+use Rattle.answers.specs.Refusal.{number as refusalNumber}
 use Rattle.answers.specs.declared.Refusal.the-variants.{BytesMissing}
 use Rattle.listing.specs.Steps.{wantsMore, ends}
 use Rattle.listing.specs.Making.{stopOf}
-use Rattle.listing.proofs.Making.{same-made, nothing, no-packet-more, no-packet-over}
+use Rattle.listing.proofs.StepMakes.{same-made, nothing, no-packet-more, no-packet-over}
 use borrow.Author.Needs.{needs}
 use Rattle.listing.proofs.no_packet.Statement.{statement}
 use Rattle.listing.proofs.no_packet.Tie as tie
@@ -26,7 +26,7 @@ wants-more-requires c κs = search needs
 -- what is tested
 tested : (c : tie.After-number2)
     → (let a = c .before .before .before .args in
-    (eqb (told (a .why)) (told BytesMissing) && not (a .ended)) ≡ (eqb (c .before .number .result) (c .number2 .result) && not (a .ended)))
+    (eqb (refusalNumber (a .why)) (refusalNumber BytesMissing) && not (a .ended)) ≡ (eqb (c .before .number .result) (c .number2 .result) && not (a .ended)))
 tested c = rw (c .before .number .ensures, c .number2 .ensures)
 
 returns : tie.Need-returns

@@ -2,9 +2,9 @@
 -- Assumes nothing.
 use native.Mathlib.Omega.{arith}
 use denote.Ref.{now}
-use Rattle.lines.specs.Lines.{endLine}
-use Rattle.lines.proofs.Laws.{end-most}
-use Rattle.listing.proofs.Making.{line-put}
+use Rattle.listing_text.specs.Lines.{endLine}
+use Rattle.listing_text.proofs.LineLengths.{end-most}
+use Rattle.listing.proofs.StepMakes.{line-put}
 use borrow.Author.Needs.{needs}
 use Rattle.listing.proofs.put_end.Statement.{statement}
 use Rattle.listing.proofs.put_end.Tie as tie

@@ -1,9 +1,9 @@
 -- `put_last` meets its promise: text after text.
 -- Assumes nothing.
 use denote.Ref.{now}
-use Rattle.lines.specs.Lines.{endLine}
+use Rattle.listing_text.specs.Lines.{endLine}
 use Rattle.listing.specs.Making.{stopText}
-use Rattle.listing.proofs.Making.{put-after, last-lines}
+use Rattle.listing.proofs.StepMakes.{put-after, last-lines}
 use borrow.Author.Needs.{needs}
 use Rattle.listing.proofs.put_last.Statement.{statement}
 use Rattle.listing.proofs.put_last.Tie as tie
@@ -34,10 +34,10 @@ returns c =
     let a = c .before .before .before .before .before .before .before .before .before .args in
     let s = c .before .before .before .before .before .before .put-stop in
     let e = c .before .before .put-end in
-    let lines = last-lines (a .stop) (a .messages) (a .damages) in
+    let seats = last-lines (a .stop) (a .messages) (a .damages) in
     let put =
     put-after (stopText (a .stop)) (endLine (a .messages) (a .damages)) (now (a .out)) (s .last .1 .0) (e .last .1 .1 .0) (s .result) (e .result) (s .ensures .0) (e .ensures .0) in
-    rw lines put
+    rw seats put
 
 pub put-last-spec : {M : Type 1} → statement M
 put-last-spec =

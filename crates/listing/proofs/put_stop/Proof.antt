@@ -4,10 +4,10 @@ use native.Mathlib.Omega.{arith}
 use mathlib.Core.Path.{refl}
 use borrow.Author.Tests.{eq-eqb, ne-eqb}
 use denote.Ref.{now}
-use Rattle.lines.specs.Lines.{stopLine}
-use Rattle.lines.proofs.Laws.{stop-most}
+use Rattle.listing_text.specs.Lines.{stopLine}
+use Rattle.listing_text.proofs.LineLengths.{stop-most}
 use Rattle.listing.specs.Making.{stopText}
-use Rattle.listing.proofs.Making.{line-put}
+use Rattle.listing.proofs.StepMakes.{line-put}
 use borrow.Author.Needs.{needs}
 use Rattle.listing.proofs.put_stop.Statement.{statement}
 use Rattle.listing.proofs.put_stop.Tie as tie

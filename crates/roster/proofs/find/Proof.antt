@@ -7,9 +7,9 @@ use native.Mathlib.Omega.{arith}
 use borrow.Author.Needs.{needs}
 use Rattle.roster.specs.Roster.{places, spoilt, usedBy}
 use Rattle.roster.specs.Bytes.{placesOf}
-use Rattle.roster.proofs.Bytes.{count-places}
-use Rattle.roster.proofs.Test.{fine-size}
-use Rattle.roster.proofs.Ends.{first-most, heard-spoilt, heard-fine, find-spoilt, find-unfit, find-none, find-there}
+use Rattle.roster.proofs.PlacesInBytes.{count-places}
+use Rattle.roster.proofs.SoundTest.{fine-size}
+use Rattle.roster.proofs.CallEnds.{first-most, heard-spoilt, heard-fine, find-spoilt, find-unfit, find-none, find-there}
 use Rattle.roster.proofs.find.Statement.{statement}
 use Rattle.roster.proofs.find.Tie as tie
 

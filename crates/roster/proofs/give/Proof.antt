@@ -5,8 +5,8 @@ use mathlib.Core.Bool.{false}
 use borrow.Author.Needs.{needs}
 use Rattle.roster.specs.Roster.{spoilt}
 use Rattle.roster.specs.Bytes.{placesOf}
-use Rattle.roster.proofs.Test.{fine-size}
-use Rattle.roster.proofs.Ends.{heard-spoilt, heard-fine, give-spoilt, give-unfit, give-fit}
+use Rattle.roster.proofs.SoundTest.{fine-size}
+use Rattle.roster.proofs.CallEnds.{heard-spoilt, heard-fine, give-spoilt, give-unfit, give-fit}
 use Rattle.roster.proofs.give.Statement.{statement}
 use Rattle.roster.proofs.give.Tie as tie
 

@@ -5,8 +5,8 @@ use native.Mathlib.Omega.{arith}
 use borrow.Author.Needs.{needs}
 use Rattle.roster.specs.Roster.{places, free}
 use Rattle.roster.specs.Bytes.{placesOf}
-use Rattle.roster.proofs.Bytes.{count-places}
-use Rattle.roster.proofs.Ends.{first-most, give-kept, give-full, give-new}
+use Rattle.roster.proofs.PlacesInBytes.{count-places}
+use Rattle.roster.proofs.CallEnds.{first-most, give-kept, give-full, give-new}
 use Rattle.roster.proofs.give_sound.Statement.{statement}
 use Rattle.roster.proofs.give_sound.Tie as tie
 

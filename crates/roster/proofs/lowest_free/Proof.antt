@@ -6,7 +6,7 @@ use native.Mathlib.Omega.{arith}
 use borrow.Author.Tests.{eq-eqb, ne-eqb}
 use borrow.Author.Needs.{needs}
 use Rattle.roster.specs.Roster.{places, free}
-use Rattle.roster.proofs.Search.{Passed, passed-more, passed-first, passed-none}
+use Rattle.roster.proofs.SearchSteps.{Passed, passed-more, passed-first, passed-none}
 use Rattle.roster.proofs.lowest_free.Statement.{statement}
 use Rattle.roster.proofs.lowest_free.Tie as tie
 

@@ -8,7 +8,7 @@ use borrow.Author.Tests.{eq-eqb, ne-eqb, lt-ltb, le-ltb}
 use borrow.Author.Needs.{needs}
 use Rattle.roster.specs.declared.Place.{Place}
 use Rattle.roster.specs.Roster.{freePlace, noneAt, free}
-use Rattle.roster.proofs.Bytes.{place-at}
+use Rattle.roster.proofs.PlacesInBytes.{place-at}
 use Rattle.roster.proofs.none_at.Statement.{statement}
 use Rattle.roster.proofs.none_at.Tie as tie
 

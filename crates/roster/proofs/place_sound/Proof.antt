@@ -8,8 +8,8 @@ use borrow.Author.Needs.{needs}
 use Rattle.roster.specs.Roster.{usedBy, first, freePlace}
 use Rattle.roster.specs.Bytes.{placesOf}
 use Rattle.roster.specs.Roster as Roster
-use Rattle.roster.proofs.Search.{serial-there}
-use Rattle.roster.proofs.Test.{sound-used, sound-neither, sound-free}
+use Rattle.roster.proofs.SearchSteps.{serial-there}
+use Rattle.roster.proofs.SoundTest.{sound-used, sound-neither, sound-free}
 use Rattle.roster.proofs.place_sound.Statement.{statement}
 use Rattle.roster.proofs.place_sound.Tie as tie
 

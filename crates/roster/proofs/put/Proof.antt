@@ -9,7 +9,7 @@ use borrow.Rule.Slice.PartMut.{putMid}
 use borrow.Author.Needs.{needs}
 use Rattle.roster.specs.Bytes.{placeSize, placesOf, bytesOf}
 use Rattle.roster.specs.declared.Place.{Place}
-use Rattle.roster.proofs.Bytes.{set-length, place-put}
+use Rattle.roster.proofs.PlacesInBytes.{set-length, place-put}
 use Rattle.roster.proofs.put.Statement.{statement}
 use Rattle.roster.proofs.put.Tie as tie
 

@@ -6,8 +6,8 @@ use native.Mathlib.Omega.{arith}
 use borrow.Author.Needs.{needs}
 use Rattle.roster.specs.Roster.{spoilt, noneAt}
 use Rattle.roster.specs.Bytes.{placesOf}
-use Rattle.roster.proofs.Test.{fine-size}
-use Rattle.roster.proofs.Ends.{heard-spoilt, heard-fine, Held, held, remove-spoilt, remove-none, remove-done}
+use Rattle.roster.proofs.SoundTest.{fine-size}
+use Rattle.roster.proofs.CallEnds.{heard-spoilt, heard-fine, Held, held, remove-spoilt, remove-none, remove-done}
 use Rattle.roster.proofs.remove.Statement.{statement}
 use Rattle.roster.proofs.remove.Tie as tie
 

@@ -8,7 +8,7 @@ use lib.ListN.{drop}
 use borrow.Author.Needs.{needs}
 use Rattle.roster.specs.Roster.{serialSize}
 use Rattle.roster.specs.Roster as Roster
-use Rattle.roster.proofs.Search.{same-next, same-end}
+use Rattle.roster.proofs.SearchSteps.{same-next, same-end}
 use Rattle.roster.proofs.same.Statement.{statement}
 use Rattle.roster.proofs.same.Tie as tie
 

@@ -12,8 +12,8 @@ use Rattle.roster.specs.Roster.{places}
 use Rattle.roster.specs.Roster as Roster
 use Rattle.roster.specs.Bytes.{rosterSize, placesOf}
 use Rattle.roster.specs.Inside.{soundAt}
-use Rattle.roster.proofs.Bytes.{count-places}
-use Rattle.roster.proofs.Test.{sound-from, other-size, this-size}
+use Rattle.roster.proofs.PlacesInBytes.{count-places}
+use Rattle.roster.proofs.SoundTest.{sound-from, other-size, this-size}
 use Rattle.roster.proofs.sound.Statement.{statement}
 use Rattle.roster.proofs.sound.Tie as tie
 

@@ -7,7 +7,7 @@ use borrow.Author.Tests.{eq-eqb, ne-eqb}
 use borrow.Author.Needs.{needs}
 use Rattle.roster.specs.Roster as Roster
 use Rattle.roster.specs.Roster.{used, usedBy}
-use Rattle.roster.proofs.Search.{serial-there}
+use Rattle.roster.proofs.SearchSteps.{serial-there}
 use Rattle.roster.proofs.used_by.Statement.{statement}
 use Rattle.roster.proofs.used_by.Tie as tie
 

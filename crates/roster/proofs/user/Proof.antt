@@ -5,7 +5,7 @@ use mathlib.Core.Path.{refl, sym, _∙_}
 use native.Mathlib.Omega.{arith}
 use borrow.Author.Needs.{needs}
 use Rattle.roster.specs.Roster.{places, usedBy}
-use Rattle.roster.proofs.Search.{Passed, passed-here, passed-more, passed-all}
+use Rattle.roster.proofs.SearchSteps.{Passed, passed-here, passed-more, passed-all}
 use Rattle.roster.proofs.user.Statement.{statement}
 use Rattle.roster.proofs.user.Tie as tie
 

@@ -6,13 +6,13 @@ use mathlib.Core.Path.{_≡_, _∙_, ap}
 use mathlib.Core.Bool.{false}
 use mathlib.Core.List.{List}
 use lib.ListN.{length, take, drop, length-take, length-drop}
-use Rattle.uplink.specs.Packet.{headLength, lineMax}
+use Rattle.uplink.specs.Packet.{leadLength, pieceMax}
 use Rattle.listing.specs.Steps.{packetsMax, IsStep}
 use Rattle.listing.specs.declared.Listing.{Listing}
 use Rattle.listing.specs.declared.Listed.{Listed}
 use Rattle.listing.specs.declared.Heard.the-variants.{More, Packet as Took}
-use Rattle.stored_day.proofs.Demands.{gets-on}
-use Rattle.sbrlist.proofs.Laws.{wrote-fits, left, took-less, more-less}
+use Rattle.listing_whole.proofs.Demands.{gets-on}
+use Rattle.sbrlist.proofs.ProgramEnds.{wrote-fits, left, took-less, more-less}
 use borrow.Author.Needs.{needs}
 use Rattle.sbrlist.proofs.list.Statement.{statement}
 use Rattle.sbrlist.proofs.list.Tie as tie
@@ -72,7 +72,7 @@ module _ (c : tie.After-step Inv-loop μ-loop) where
   took e = let g = gets-on before input lent later (turn c .loop .ended) after stepped .1 e in (omega (arith, g .1, hand), g .2, g .3)
 
   -- more is wanted
-  more : after .heard ≡ More → (turn c .loop .ended ≡ false) × (atHand < headLength + lineMax) × (after .listing .packets ≡ before .packets)
+  more : after .heard ≡ More → (turn c .loop .ended ≡ false) × (atHand < leadLength + pieceMax) × (after .listing .packets ≡ before .packets)
   more e =
       let g = gets-on before input lent later (turn c .loop .ended) after stepped .0 e in
       (g .0, omega (arith, g .1, hand), ap (λ (l : Listing). l .packets) (g .2))

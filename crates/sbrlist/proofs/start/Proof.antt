@@ -1,12 +1,12 @@
 -- `start`: the header fits where it was written.
 -- Assumes nothing.
-use Rattle.sbrlist.proofs.Laws.{head-fits}
+use Rattle.sbrlist.proofs.ProgramEnds.{title-fits}
 use borrow.Author.Needs.{needs}
 use Rattle.sbrlist.proofs.start.Statement.{statement}
 use Rattle.sbrlist.proofs.start.Tie as tie
 
-head-requires : tie.Need-head-requires
-head-requires c κs = search needs
+title-requires : tie.Need-title-requires
+title-requires c κs = search needs
 
 enum-known-w : tie.Need-enum-known-w
 enum-known-w c = search needs
@@ -19,8 +19,8 @@ same-length c = search needs
 
 returns : tie.Need-returns
 returns c =
-    let h = c .before .before .before .before .before .head in
-    head-fits _ _ _ _ (h .ensures) (h .kept .0) (c .before .w .given .1)
+    let h = c .before .before .before .before .before .title in
+    title-fits _ _ _ _ (h .ensures) (h .kept .0) (c .before .w .given .1)
 
 same-length-2 : tie.Need-same-length-2
 same-length-2 c = search needs
@@ -31,4 +31,4 @@ returns-2 c = search needs
 pub start-spec : {M : Type 1} → statement M
 start-spec =
     tie.close
-    (tie.spec head-requires enum-known-w enum-told same-length returns same-length-2 returns-2)
+    (tie.spec title-requires enum-known-w enum-told same-length returns same-length-2 returns-2)

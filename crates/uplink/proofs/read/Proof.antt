@@ -9,7 +9,7 @@ use mathlib.Core.Bool.{true, _&&_}
 use lib.Dec.{eqb}
 use denote.Ref.{now}
 use Rattle.uplink.specs.Packet.{carried, marked, known, counted, versionIn}
-use Rattle.uplink.proofs.Laws.{Head, carried-count, is-short, not-marked, not-known, not-carried, is-cut, is-packet}
+use Rattle.uplink.proofs.PacketTests.{Head, carried-count, is-short, not-marked, not-known, not-carried, is-cut, is-packet}
 use Rattle.uplink.proofs.read.Statement.{statement}
 use Rattle.uplink.proofs.read.Tie as tie
 

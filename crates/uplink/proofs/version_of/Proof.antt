@@ -1,6 +1,6 @@
 -- `version_of` meets its promise: by its one test. Assumes nothing.
 use Rattle.uplink.specs.Packet.{versionOf}
-use Rattle.uplink.proofs.Laws.{by-true, by-false}
+use Rattle.uplink.proofs.PacketTests.{by-true, by-false}
 use Rattle.uplink.proofs.version_of.Statement.{statement}
 use Rattle.uplink.proofs.version_of.Tie as tie
 

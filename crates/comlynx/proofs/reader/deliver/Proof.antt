@@ -1,6 +1,6 @@
 use mathlib.Core.Path.{subst}
 use lib.ListN.{length-take, length-drop}
-use Rattle.stream.proofs.Lists.{part-front}
+use Rattle.stream.proofs.ListLaws.{part-front}
 use Rattle.comlynx.specs.Inside.{Small, given}
 use Rattle.comlynx.specs.declared.reader.Answer.{Answer}
 use native.Mathlib.Omega.{arith}

@@ -1,4 +1,4 @@
-use Rattle.comlynx.proofs.Fill.{filled-more}
+use Rattle.comlynx.proofs.FillScans.{filled-more}
 use mathlib.Core.Path.{refl}
 use borrow.Author.Needs.{needs}
 use Rattle.comlynx.proofs.reader.fill.Statement.{statement}

@@ -1,5 +1,5 @@
 use Rattle.comlynx.specs.Inside.{Filled}
-use Rattle.comlynx.proofs.Fill.{filled-none, filled-one, filled-more, plain-of}
+use Rattle.comlynx.proofs.FillScans.{filled-none, filled-one, filled-more, plain-of}
 use native.Mathlib.Omega.{arith}
 use Prim.Native.Nat.{_+_, _-_, _≤_}
 use mathlib.Core.Path.{_≡_}

@@ -3,7 +3,7 @@ use borrow.Author.Tests.{not-true, not-false}
 use Rattle.comlynx.specs.Rules.{sized, begins}
 use Rattle.comlynx.specs.declared.reader.Header.{Header}
 use Rattle.comlynx.specs.declared.reader.Answer.the-variants.{Message as Read}
-use Rattle.comlynx.proofs.Judge.{sized-bounds, heldHeader, judged-length, judged-start, judged-size, judged-sum, judged-message}
+use Rattle.comlynx.proofs.JudgedIsDelivered.{sized-bounds, heldHeader, judged-length, judged-start, judged-size, judged-sum, judged-message}
 use native.Mathlib.Omega.{arith}
 use Prim.Native.Nat.{ℕ, _-_, _≤_}
 use mathlib.Core.Path.{_≡_, sym, _∙_, ap}

@@ -1,5 +1,5 @@
 use Rattle.comlynx.specs.Inside.{AllPlain}
-use Rattle.comlynx.proofs.Fill.{plain-more}
+use Rattle.comlynx.proofs.FillScans.{plain-more}
 use native.Mathlib.Omega.{arith}
 use Prim.Native.Nat.{_-_, _≤_}
 use mathlib.Core.Path.{_≡_}

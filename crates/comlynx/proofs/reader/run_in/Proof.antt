@@ -4,13 +4,13 @@ use mathlib.Core.List.{List}
 use lib.ListN.{length-set}
 use Rattle.stream.specs.Event.{Event}
 use Rattle.stream.specs.Pieces.{Called, scan, scanFrom}
-use Rattle.stream.proofs.Loop.{from-start, from-goes, from-tells, from-end}
+use Rattle.stream.proofs.LoopScans.{from-start, from-goes, from-tells, from-end}
 use Rattle.comlynx.specs.Wire.{Message}
 use Rattle.comlynx.specs.Machine.{tooMany, bodyMax, moved, next}
 use Rattle.comlynx.specs.declared.reader.Reader.{Reader}
 use Rattle.comlynx.specs.declared.reader.Move.{Move}
 use Rattle.comlynx.specs.declared.reader.Move.the-variants.{Skip, Open, Mark, Spoil, Keep, Over, Close, Fail}
-use Rattle.comlynx.proofs.Range.{Range, within, range-of, in-range, range-count, Asked, asked}
+use Rattle.comlynx.proofs.StageRanges.{Range, within, range-of, in-range, range-count, Asked, asked}
 use native.Mathlib.Omega.{arith}
 use Prim.Native.Nat.{ℕ, _+_, _-_, _<_, _≤_}
 use mathlib.Core.Path.{_≡_, refl, sym, _∙_, ap}

@@ -1,7 +1,7 @@
 use mathlib.Core.Path.{subst}
 use native.Mathlib.Nat.{add-assoc}
 use Rattle.comlynx.specs.Inside.{Filled}
-use Rattle.comlynx.proofs.Fill.{filled-none, filled-one, filled-more}
+use Rattle.comlynx.proofs.FillScans.{filled-none, filled-one, filled-more}
 use native.Mathlib.Omega.{arith}
 use Prim.Native.Nat.{ℕ, _+_, _-_, _≤_}
 use mathlib.Core.Path.{_≡_}

@@ -1,7 +1,7 @@
 use lib.ListN.{length-set}
 use mathlib.Core.List.{[], _∷_}
 use Rattle.comlynx.specs.Wire.{escape, stuffed}
-use Rattle.comlynx.proofs.Store.{stuffed-flag, stuffed-escape, stuffed-plain, put-pair, put-plain}
+use Rattle.comlynx.proofs.StoresMakeFrame.{stuffed-flag, stuffed-escape, stuffed-plain, put-pair, put-plain}
 use native.Mathlib.Omega.{arith}
 use mathlib.Core.Path.{_≡_, ap}
 use lib.ListN.{length}

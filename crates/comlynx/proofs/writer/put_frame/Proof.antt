@@ -1,7 +1,7 @@
 use lib.ListN.{length-set}
 use mathlib.Core.List.{List}
 use Rattle.comlynx.specs.Wire.{flag, stuffed}
-use Rattle.comlynx.proofs.Store.{stored-length, framed-length, frame-stored}
+use Rattle.comlynx.proofs.StoresMakeFrame.{stored-length, framed-length, frame-stored}
 use native.Mathlib.Omega.{arith}
 use Prim.Native.Nat.{ℕ, _+_, _≤_}
 use mathlib.Core.Path.{_≡_, _∙_, ap}
@@ -10,8 +10,8 @@ use Rattle.comlynx.proofs.writer.put_frame.Statement.{statement}
 use Rattle.comlynx.proofs.writer.put_frame.Tie as tie
 
 -- all of it has room
-fits : (c : tie.Start) → length (stuffed (c .args .first .now)) + length (stuffed (c .args .bytes .now)) + length (stuffed (c .args .last .now)) + 2 ≤ length (c .args .lent .now)
-fits c = omega (arith, framed-length (c .args .first .now) (c .args .bytes .now) (c .args .last .now))
+fits : (c : tie.Start) → length (stuffed (c .args .first .now)) + length (stuffed (c .args .payload .now)) + length (stuffed (c .args .last .now)) + 2 ≤ length (c .args .lent .now)
+fits c = omega (arith, framed-length (c .args .first .now) (c .args .payload .now) (c .args .last .now))
 
 -- the start of the call, from after each part; the buffer then, and its length
 abbrev start₁ : tie.After-put-stuffed → tie.Start
@@ -38,7 +38,7 @@ long₁ c = stored-length (start₁ c .args .first .now) 1 (set (start₁ c .arg
 long₂ : (c : tie.After-put-stuffed2) → length (k₂ c) ≡ length (start₂ c .args .lent .now)
 long₂ c =
     let b = c .before .before .before .before in
-    stored-length (start₂ c .args .bytes .now) (b .put-stuffed .result) (k₁ b) (c .put-stuffed2 .result) (k₂ c) (c .put-stuffed2 .ensures) ∙ long₁ b
+    stored-length (start₂ c .args .payload .now) (b .put-stuffed .result) (k₁ b) (c .put-stuffed2 .result) (k₂ c) (c .put-stuffed2 .ensures) ∙ long₁ b
 
 long₃ : (c : tie.After-put-stuffed3) → length (k₃ c) ≡ length (start₃ c .args .lent .now)
 long₃ c =
@@ -49,10 +49,10 @@ long₃ c =
 place₁ : (c : tie.After-put-stuffed) → c .put-stuffed .result ≡ 1 + length (stuffed (start₁ c .args .first .now))
 place₁ c = c .put-stuffed .ensures .0
 
-place₂ : (c : tie.After-put-stuffed2) → c .put-stuffed2 .result ≡ 1 + length (stuffed (start₂ c .args .first .now)) + length (stuffed (start₂ c .args .bytes .now))
-place₂ c = c .put-stuffed2 .ensures .0 ∙ ap (λ (n : ℕ). n + length (stuffed (start₂ c .args .bytes .now))) (place₁ (c .before .before .before .before))
+place₂ : (c : tie.After-put-stuffed2) → c .put-stuffed2 .result ≡ 1 + length (stuffed (start₂ c .args .first .now)) + length (stuffed (start₂ c .args .payload .now))
+place₂ c = c .put-stuffed2 .ensures .0 ∙ ap (λ (n : ℕ). n + length (stuffed (start₂ c .args .payload .now))) (place₁ (c .before .before .before .before))
 
-place₃ : (c : tie.After-put-stuffed3) → c .put-stuffed3 .result ≡ 1 + length (stuffed (start₃ c .args .first .now)) + length (stuffed (start₃ c .args .bytes .now)) + length (stuffed (start₃ c .args .last .now))
+place₃ : (c : tie.After-put-stuffed3) → c .put-stuffed3 .result ≡ 1 + length (stuffed (start₃ c .args .first .now)) + length (stuffed (start₃ c .args .payload .now)) + length (stuffed (start₃ c .args .last .now))
 place₃ c = c .put-stuffed3 .ensures .0 ∙ ap (λ (n : ℕ). n + length (stuffed (start₃ c .args .last .now))) (place₂ (c .before .before .before .before))
 
 slice-write-lent : tie.Need-slice-write-lent
@@ -79,7 +79,7 @@ returns c =
     let y = x .before .before .before .before in
     let z = y .before .before .before .before in
     let a = start₃ x .args in
-    frame-stored (a .first .now) (a .bytes .now) (a .last .now) (a .lent .now) (z .put-stuffed .result) (y .put-stuffed2 .result) (x .put-stuffed3 .result) (k₁ z) (k₂ y) (k₃ x) (z .put-stuffed .ensures) (y .put-stuffed2 .ensures) (x .put-stuffed3 .ensures)
+    frame-stored (a .first .now) (a .payload .now) (a .last .now) (a .lent .now) (z .put-stuffed .result) (y .put-stuffed2 .result) (x .put-stuffed3 .result) (k₁ z) (k₂ y) (k₃ x) (z .put-stuffed .ensures) (y .put-stuffed2 .ensures) (x .put-stuffed3 .ensures)
 
 pub put-frame-spec : {M : Type 1} → statement M
 put-frame-spec =

@@ -1,7 +1,7 @@
 use mathlib.Core.List.{[], _∷_}
 use lib.Seq.{sets}
 use Rattle.comlynx.specs.Wire.{stuffed}
-use Rattle.comlynx.proofs.Store.{stored-length, left-length, left-none, left-stored}
+use Rattle.comlynx.proofs.StoresMakeFrame.{stored-length, left-length, left-none, left-stored}
 use native.Mathlib.Omega.{arith}
 use Prim.Native.Nat.{_+_, _-_, _≤_}
 use mathlib.Core.Path.{_≡_, refl, sym, _∙_, ap}
@@ -11,12 +11,12 @@ use Rattle.comlynx.proofs.writer.put_stuffed.Statement.{statement}
 use Rattle.comlynx.proofs.writer.put_stuffed.Tie as tie
 
 abbrev Inv-loop : tie.InvT-loop
-Inv-loop s lent₀ at place₀ i₀ lent place i =
-    (i ≤ length s) × (place + length (stuffed (drop i s)) ≡ at + length (stuffed s)) × (length lent ≡ length lent₀)
-    × (sets lent place (stuffed (drop i s)) ≡ sets lent₀ at (stuffed s))
+Inv-loop s lent₀ at to₀ i₀ lent to i =
+    (i ≤ length s) × (to + length (stuffed (drop i s)) ≡ at + length (stuffed s)) × (length lent ≡ length lent₀)
+    × (sets lent to (stuffed (drop i s)) ≡ sets lent₀ at (stuffed s))
 
 abbrev μ-loop : tie.MeasureT-loop
-μ-loop s lent₀ at place₀ i₀ lent place i = length s - i
+μ-loop s lent₀ at to₀ i₀ lent to i = length s - i
 
 loop-holds : tie.Need-loop-holds Inv-loop μ-loop
 loop-holds c = (omega arith, refl, refl, refl)
@@ -44,8 +44,8 @@ loop-again c =
     let p = c .before .before .put in (
       omega arith,
       omega (arith, left-length s (l .i) (omega arith), p .ensures .0),
-      stored-length (getD s (l .i) 0 ∷ []) (l .place) (l .lent) (p .result) _ (p .ensures) ∙ l .inv .2,
-      left-stored s (l .i) (l .place) (p .result) (l .lent) _ (omega arith) (p .ensures) ∙ l .inv .3,
+      stored-length (getD s (l .i) 0 ∷ []) (l .to) (l .lent) (p .result) _ (p .ensures) ∙ l .inv .2,
+      left-stored s (l .i) (l .to) (p .result) (l .lent) _ (omega arith) (p .ensures) ∙ l .inv .3,
     )
 
 same-length : tie.Need-same-length Inv-loop μ-loop
@@ -56,7 +56,7 @@ returns c =
     let l = c .before .loop in
     let s = c .before .before .before .before .args .s .now in
     let none = left-none s (l .i) (c .loop-test .left) in
-    (omega (arith, ap length none), sym (ap (sets (l .lent) (l .place)) none) ∙ l .inv .3)
+    (omega (arith, ap length none), sym (ap (sets (l .lent) (l .to)) none) ∙ l .inv .3)
 
 pub put-stuffed-spec : {M : Type 1} → statement M
 put-stuffed-spec =

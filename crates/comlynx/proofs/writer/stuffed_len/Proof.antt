@@ -1,5 +1,5 @@
 use Rattle.comlynx.specs.Wire.{stuffed}
-use Rattle.comlynx.proofs.Store.{stuffed-most, left-length, left-none}
+use Rattle.comlynx.proofs.StoresMakeFrame.{stuffed-most, left-length, left-none}
 use native.Mathlib.Omega.{arith}
 use Prim.Native.Nat.{_+_, _-_, _≤_}
 use mathlib.Core.Path.{_≡_, ap}

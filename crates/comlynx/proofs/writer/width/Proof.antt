@@ -1,4 +1,4 @@
-use Rattle.comlynx.proofs.Store.{width-one, width-two}
+use Rattle.comlynx.proofs.StoresMakeFrame.{width-one, width-two}
 use Rattle.comlynx.proofs.writer.width.Statement.{statement}
 use Rattle.comlynx.proofs.writer.width.Tie as tie
 

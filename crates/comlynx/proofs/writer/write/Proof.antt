@@ -1,9 +1,9 @@
 use mathlib.Core.Path.{subst}
-use Rattle.comlynx.proofs.Store.{framed-length}
+use Rattle.comlynx.proofs.StoresMakeFrame.{framed-length}
 use mathlib.Core.List.{List, [], _∷_}
-use Rattle.fcs.specs.Fcs.{sent}
-use Rattle.comlynx.specs.Wire.{head, covered, stuffed}
-use Rattle.comlynx.proofs.Writing.{asked, no-room, done, too-long}
+use Rattle.comlynx_checksum.specs.Fcs.{sent}
+use Rattle.comlynx.specs.Wire.{lead, covered, stuffed}
+use Rattle.comlynx.proofs.WriterWritesFrame.{asked, no-room, done, too-long}
 use native.Mathlib.Omega.{arith}
 use Prim.Native.Nat.{ℕ, _+_, _≤_}
 use mathlib.Core.Path.{_≡_, sym, _∙_}
@@ -20,40 +20,40 @@ abbrev sum-at : tie.After-stuffed-len3 → tie.After-sent-of
 sum-at c = c .before .before .before .before .before
 
 abbrev first : tie.After-stuffed-len3 → List ℕ
-first c = sum-at c .before .before .before .before .head-of .result
+first c = sum-at c .before .before .before .before .lead-of .result
 
 abbrev last : tie.After-stuffed-len3 → List ℕ
 last c = let d = sum-at c .sent-of .result in d .low ∷ d .high ∷ []
 
-first-is : (c : tie.After-stuffed-len3) → (let a = start c .args in first c ≡ head (a .source) (a .destination) (length (a .«data» .now)) (a .kind))
-first-is c = sum-at c .before .before .before .before .head-of .ensures
+first-is : (c : tie.After-stuffed-len3) → (let a = start c .args in first c ≡ lead (a .source) (a .destination) (length (a .payload .now)) (a .kind))
+first-is c = sum-at c .before .before .before .before .lead-of .ensures
 
-few : (c : tie.After-stuffed-len3) → length (start c .args .«data» .now) ≤ 255
+few : (c : tie.After-stuffed-len3) → length (start c .args .payload .now) ≤ 255
 few c = sum-at c .before .before .before .before .before .if1 .left
 
 last-is : (c : tie.After-stuffed-len3)
-    → (let a = start c .args in last c ≡ sent (covered (record { source = a .source; destination = a .destination; kind = a .kind; bytes = a .«data» .now })))
+    → (let a = start c .args in last c ≡ sent (covered (record { source = a .source; destination = a .destination; kind = a .kind; payload = a .payload .now })))
 last-is c =
     let a = start c .args in
     let m = sum-at c .before in
-    asked (a .source) (a .destination) (a .kind) (a .«data» .now) (a .lent .now) (first c) (m .before .of .result) (m .more .result) (sum-at c .sent-of .result) (first-is c) (m .before .of .ensures) (m .more .ensures) (sum-at c .sent-of .ensures)
+    asked (a .source) (a .destination) (a .kind) (a .payload .now) (a .lent .now) (first c) (m .before .of .result) (m .more .result) (sum-at c .sent-of .result) (first-is c) (m .before .of .ensures) (m .more .ensures) (sum-at c .sent-of .ensures)
 
 -- the length that was worked out
 length-is : (c : tie.After-stuffed-len3)
     → c .before .before .before .stuffed-len .result + c .before .before .stuffed-len2 .result + c .stuffed-len3 .result + 2
-    ≡ length (stuffed (first c)) + length (stuffed (start c .args .«data» .now)) + length (stuffed (last c)) + 2
+    ≡ length (stuffed (first c)) + length (stuffed (start c .args .payload .now)) + length (stuffed (last c)) + 2
 length-is c = omega (arith, c .before .before .before .stuffed-len .ensures .0, c .before .before .stuffed-len2 .ensures .0, c .stuffed-len3 .ensures .0)
 
 returns : tie.Need-returns
 returns c =
     let a = c .before .before .before .args in
-    too-long (a .source) (a .destination) (a .kind) (a .«data» .now) (a .lent .now) (omega arith)
+    too-long (a .source) (a .destination) (a .kind) (a .payload .now) (a .lent .now) (omega arith)
 
-cast-head-of : tie.Need-cast-head-of
-cast-head-of c = search needs
+cast-lead-of : tie.Need-cast-lead-of
+cast-lead-of c = search needs
 
-head-of-requires : tie.Need-head-of-requires
-head-of-requires c κs = search needs
+lead-of-requires : tie.Need-lead-of-requires
+lead-of-requires c κs = search needs
 
 slice-aggregate-of : tie.Need-slice-aggregate-of
 slice-aggregate-of c = search needs
@@ -95,7 +95,7 @@ returns-2 : tie.Need-returns-2
 returns-2 c =
     let b = c .before in
     let a = start b .args in
-    no-room (a .source) (a .destination) (a .kind) (a .«data» .now) (a .lent .now) (first b) (last b) (first-is b) (last-is b) (few b) (omega (arith, c .if2 .taken, length-is b))
+    no-room (a .source) (a .destination) (a .kind) (a .payload .now) (a .lent .now) (first b) (last b) (first-is b) (last-is b) (few b) (omega (arith, c .if2 .taken, length-is b))
 
 slice-aggregate-put-frame : tie.Need-slice-aggregate-put-frame
 slice-aggregate-put-frame c = search needs
@@ -107,7 +107,7 @@ put-frame-requires : tie.Need-put-frame-requires
 put-frame-requires c κs =
     let e = c .before .before .before in
     let b = e .before in
-    subst (λ (n : ℕ). n ≤ length (start b .args .lent .now)) (length-is b ∙ sym (framed-length (first b) (start b .args .«data» .now) (last b))) (e .if2 .left)
+    subst (λ (n : ℕ). n ≤ length (start b .args .lent .now)) (length-is b ∙ sym (framed-length (first b) (start b .args .payload .now) (last b))) (e .if2 .left)
 
 same-length : tie.Need-same-length
 same-length c = search needs
@@ -118,15 +118,15 @@ returns-3 c =
     let e = q .before .before .before .before in
     let b = e .before in
     let a = start b .args in
-    done (a .source) (a .destination) (a .kind) (a .«data» .now) (a .lent .now) (first b) (last b) (first-is b) (last-is b) _ _ (few b) (length-is b) (e .if2 .left) (q .put-frame .ensures)
+    done (a .source) (a .destination) (a .kind) (a .payload .now) (a .lent .now) (first b) (last b) (first-is b) (last-is b) _ _ (few b) (length-is b) (e .if2 .left) (q .put-frame .ensures)
 
 pub write-spec : {M : Type 1} → statement M
 write-spec =
     tie.close
     (tie.spec
     returns
-    cast-head-of
-    head-of-requires
+    cast-lead-of
+    lead-of-requires
     slice-aggregate-of
     of-requires
     more-requires

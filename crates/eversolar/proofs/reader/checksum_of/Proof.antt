@@ -1,6 +1,6 @@
 use Prim.Native.Nat.{_%_, ℕ}
 use Rattle.eversolar.specs.Wire.{checksum}
-use Rattle.eversolar.proofs.Moves.{total-front}
+use Rattle.eversolar.proofs.MachineMoves.{total-earlier}
 use native.Mathlib.Omega.{arith}
 use mathlib.Core.Path.{ap}
 use lib.ListN.{take, drop}
@@ -40,7 +40,7 @@ unfolding checksum
 returns c =
     let a = c .before .before .before .args in
     let s = a .s .now in
-    ap (λ (n : ℕ). n % 65536) (omega (arith, c .before .total-of .ensures .0, c .total-of2 .ensures .0, total-front (take 6 s) (a .len) (take (a .len) (drop 7 s))))
+    ap (λ (n : ℕ). n % 65536) (omega (arith, c .before .total-of .ensures .0, c .total-of2 .ensures .0, total-earlier (take 6 s) (a .len) (take (a .len) (drop 7 s))))
 
 pub checksum-of-spec : {M : Type 1} → statement M
 checksum-of-spec =

@@ -1,7 +1,7 @@
-use Rattle.eversolar.specs.Wire.{dataMax}
+use Rattle.eversolar.specs.Wire.{payloadMax}
 use mathlib.Core.Path.{subst, sym, _∙_, ap}
 use lib.ListN.{length-take, length-drop}
-use Rattle.stream.proofs.Lists.{part-front}
+use Rattle.stream.proofs.ListLaws.{part-front}
 use Rattle.eversolar.specs.Inside.{Small, given}
 use Rattle.eversolar.specs.declared.reader.Answer.{Answer}
 use native.Mathlib.Omega.{arith}
@@ -10,7 +10,7 @@ use borrow.Author.Needs.{needs}
 use Rattle.eversolar.proofs.reader.deliver.Statement.{statement}
 use Rattle.eversolar.proofs.reader.deliver.Tie as tie
 
-small-at : (c : tie.After-answer) → c .answer .given .0 .0 .len ≤ dataMax
+small-at : (c : tie.After-answer) → c .answer .given .0 .0 .len ≤ payloadMax
 small-at c = subst Small (c .answer .given .1) (c .before .before .before .before .pre .0)
 
 enum-known-answer : tie.Need-enum-known-answer

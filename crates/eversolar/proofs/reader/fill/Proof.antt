@@ -1,8 +1,8 @@
 use lib.ListN.{length-set, length, getD, set}
 use Rattle.stream.specs.Pieces.{scanFrom}
-use Rattle.stream.proofs.Loop.{from-goes}
+use Rattle.stream.proofs.LoopScans.{from-goes}
 use Rattle.eversolar.specs.Machine.{holding, next}
-use Rattle.eversolar.proofs.Moves.{keep-more}
+use Rattle.eversolar.proofs.MachineMoves.{keep-more}
 use native.Mathlib.Omega.{arith}
 use Prim.Native.Nat.{ℕ, _+_, _-_, _≤_}
 use mathlib.Core.Path.{_≡_, refl, _∙_, ap}

@@ -1,9 +1,9 @@
 use mathlib.Core.List.{List}
 use borrow.Author.Tests.{eq-eqb, ne-eqb}
 use Rattle.stream.specs.Pieces.{scanFrom}
-use Rattle.stream.proofs.Loop.{from-goes}
+use Rattle.stream.proofs.LoopScans.{from-goes}
 use Rattle.eversolar.specs.Machine.{holding, lookedOf, next}
-use Rattle.eversolar.proofs.Moves.{look-on}
+use Rattle.eversolar.proofs.MachineMoves.{look-on}
 use native.Mathlib.Omega.{arith}
 use Prim.Native.Nat.{ℕ, _+_, _-_, _<_, _≤_}
 use mathlib.Core.Path.{_≡_, refl, _∙_, ap}

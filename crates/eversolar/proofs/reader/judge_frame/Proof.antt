@@ -1,4 +1,4 @@
-use Rattle.eversolar.proofs.Judge.{rightSum, cameSum, judged-right, judged-wrong}
+use Rattle.eversolar.proofs.JudgedIsDelivered.{rightSum, cameSum, judged-right, judged-wrong}
 use native.Mathlib.Omega.{arith}
 use mathlib.Core.Path.{_≡_, sym, _∙_}
 use borrow.Author.Needs.{needs}

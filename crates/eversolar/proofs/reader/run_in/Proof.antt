@@ -5,16 +5,16 @@ use lib.ListN.{length-set, length, getD}
 use borrow.Author.Tests.{le-ltb}
 use Rattle.stream.specs.Event.{Event}
 use Rattle.stream.specs.Pieces.{Called, scan, scanFrom}
-use Rattle.stream.proofs.Loop.{from-start, from-goes, from-tells, from-end}
+use Rattle.stream.proofs.LoopScans.{from-start, from-goes, from-tells, from-end}
 use Rattle.eversolar.specs.Wire.{Message}
 use Rattle.eversolar.specs.Machine.{holding, moved, next}
 use Rattle.eversolar.specs.Inside.{Hunted}
 use Rattle.eversolar.specs.declared.reader.Reader.{Reader}
-use Rattle.eversolar.specs.declared.reader.Place.{Place}
-use Rattle.eversolar.specs.declared.reader.Place.the-variants.{Found, End as AtEnd}
+use Rattle.eversolar.specs.declared.reader.HuntEnd.{HuntEnd}
+use Rattle.eversolar.specs.declared.reader.HuntEnd.the-variants.{Found, End as AtEnd}
 use Rattle.eversolar.specs.declared.reader.Move.{Move}
 use Rattle.eversolar.specs.declared.reader.Move.the-variants.{Keep, Size, Close}
-use Rattle.eversolar.proofs.Range.{Range, look, head, body, range-of, in-range, range-len, range-idle, most-small, keeps-range, Asked, asked}
+use Rattle.eversolar.proofs.StageRanges.{Range, look, lead, body, range-of, in-range, range-len, range-idle, most-small, keeps-range, Asked, asked}
 use native.Mathlib.Omega.{arith}
 use Prim.Native.Nat.{ℕ, _+_, _-_, _<_, _≤_}
 use borrow.Author.Needs.{needs}
@@ -36,7 +36,7 @@ seeking c = c .before .before .before
 idle : (c : tie.After-hunt Inv-loop μ-loop) → (seeking c .loop .count ≡ 0) × (seeking c .loop .len ≡ 0)
 idle c = range-idle _ _ _ (seeking c .loop .inv .1) (c .before .if1 .taken)
 
-hunted : (c : tie.After-hunt Inv-loop μ-loop) (p : Place) → c .hunt .result ≡ p → Hunted (seeking c .before .before .args .piece .now) (seeking c .loop .i) (seeking c .loop .stage) p
+hunted : (c : tie.After-hunt Inv-loop μ-loop) (p : HuntEnd) → c .hunt .result ≡ p → Hunted (seeking c .before .before .args .piece .now) (seeking c .loop .i) (seeking c .loop .stage) p
 hunted c p e = subst (Hunted (seeking c .before .before .args .piece .now) (seeking c .loop .i) (seeking c .loop .stage)) e (c .hunt .ensures)
 
 -- where a byte's move is known: the loop's place, the state before the byte, the piece, how far, and the whole call
@@ -87,22 +87,22 @@ loop-holds c =
 hunt-requires : tie.Need-hunt-requires Inv-loop μ-loop
 hunt-requires c κs = search needs
 
-enum-known-place : tie.Need-enum-known-place Inv-loop μ-loop
-enum-known-place c = search needs
+enum-known-found : tie.Need-enum-known-found Inv-loop μ-loop
+enum-known-found c = search needs
 
 loop-less : tie.Need-loop-less Inv-loop μ-loop
-loop-less c = let w = hunted (c .before .before .before) (Found _) (c .before .place .given .1) in omega arith
+loop-less c = let w = hunted (c .before .before .before) (Found _) (c .before .found .given .1) in omega arith
 
 loop-again : tie.Need-loop-again Inv-loop μ-loop
 loop-again c =
     let k = c .before .before .before in
-    let w = hunted k (Found _) (c .before .place .given .1) in
+    let w = hunted k (Found _) (c .before .found .given .1) in
     let l = seeking k .loop in
     let r = idle k in
-    (w .1, head refl (omega arith) (r .1), l .inv .2, sym (w .2 (l .len) (l .count) (l .held)) ∙ l .inv .3)
+    (w .1, lead refl (omega arith) (r .1), l .inv .2, sym (w .2 (l .len) (l .count) (l .held)) ∙ l .inv .3)
 
-enum-known-place-2 : tie.Need-enum-known-place-2 Inv-loop μ-loop
-enum-known-place-2 c = search needs
+enum-known-found-2 : tie.Need-enum-known-found-2 Inv-loop μ-loop
+enum-known-found-2 c = search needs
 
 loop-less-2 : tie.Need-loop-less-2 Inv-loop μ-loop
 loop-less-2 c = omega arith
@@ -110,7 +110,7 @@ loop-less-2 c = omega arith
 loop-again-2 : tie.Need-loop-again-2 Inv-loop μ-loop
 loop-again-2 c =
     let k = c .before .before .before in
-    let w = hunted k (AtEnd _) (c .before .place2 .given .1) in
+    let w = hunted k (AtEnd _) (c .before .found2 .given .1) in
     let l = seeking k .loop in
     let r = idle k in
     (omega arith, look (w .0) (r .0) (r .1), l .inv .2, sym (w .1 (l .len) (l .count) (l .held)) ∙ l .inv .3)
@@ -213,10 +213,10 @@ run-in-spec =
     μ-loop
     loop-holds
     hunt-requires
-    enum-known-place
+    enum-known-found
     loop-less
     loop-again
-    enum-known-place-2
+    enum-known-found-2
     loop-less-2
     loop-again-2
     shared-slice-read-b

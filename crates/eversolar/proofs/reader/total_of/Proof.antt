@@ -1,7 +1,7 @@
 use lib.ListN.{length-drop, getD, take, drop}
 use lib.Seq.{getD-drop}
 use Rattle.eversolar.specs.Wire.{total}
-use Rattle.eversolar.proofs.Moves.{total-more}
+use Rattle.eversolar.proofs.MachineMoves.{total-more}
 use native.Mathlib.Omega.{arith}
 use Prim.Native.Nat.{ℕ, _+_, _*_, _-_, _<_, _≤_}
 use mathlib.Core.Path.{_≡_, refl, _∙_, ap}

@@ -2,10 +2,10 @@ use mathlib.Core.List.{List}
 use lib.ListN.{length-set, length}
 use lib.Seq.{sets, length-sets}
 use borrow.Rule.Slice.PartMut.{putMid}
-use Rattle.stream.proofs.Lists.{part-put}
+use Rattle.stream.proofs.ListLaws.{part-put}
 use Rattle.eversolar_words.specs.Words.{wordBytes}
 use Rattle.eversolar.specs.Wire.{Message, checksum}
-use Rattle.eversolar.proofs.Frame.{too-long, no-room, done, first, summed, framed}
+use Rattle.eversolar.proofs.WriterWritesFrame.{too-long, no-room, done, first, all-summed, framed}
 use native.Mathlib.Omega.{arith}
 use Prim.Native.Nat.{ℕ, _+_, _-_, _≤_}
 use mathlib.Core.Path.{_≡_, _∙_, ap}
@@ -22,7 +22,7 @@ msg c = let a = c .args in record {
   destinationSecond = a .destination-second;
   control = a .control;
   function = a .function;
-  bytes = a .«data» .now;
+  payload = a .payload .now;
 }
 
 -- at the copy: the arguments, what the head left of the lent buffer, and what the data made of that
@@ -33,7 +33,7 @@ abbrev start : tie.After-copy → tie.Start
 start c = tested c .before .before .before .before
 
 abbrev headed : tie.After-copy → List ℕ
-headed c = c .before .before .before .before .put-head .last .1 .1 .1 .1 .1 .1 .1 .0
+headed c = c .before .before .before .before .put-lead .last .1 .1 .1 .1 .1 .1 .1 .0
 
 abbrev held : tie.After-copy → List ℕ
 held c = putMid 9 (length (headed c) - 9) (headed c) (c .copy .last .1 .0)
@@ -41,24 +41,24 @@ held c = putMid 9 (length (headed c) - 9) (headed c) (c .copy .last .1 .0)
 abbrev copied : tie.After-bytes-of → tie.After-copy
 copied c = c .before .before .before .before .before .before
 
-room : (c : tie.After-copy) → 9 + length (start c .args .«data» .now) + 2 ≤ length (start c .args .lent .now)
+room : (c : tie.After-copy) → 9 + length (start c .args .payload .now) + 2 ≤ length (start c .args .lent .now)
 room c = omega (arith, tested c .if2 .left)
 
 put : (c : tie.After-copy) → headed c ≡ sets (start c .args .lent .now) 0 (first (msg (start c)) (start c .args .lent .now))
-put c = c .before .before .before .before .put-head .ensures
+put c = c .before .before .before .before .put-lead .ensures
 
 same : (c : tie.After-copy) → length (headed c) ≡ length (start c .args .lent .now)
 same c = ap length (put c) ∙ length-sets (start c .args .lent .now) 0 (first (msg (start c)) (start c .args .lent .now))
 
-stored : (c : tie.After-copy) → held c ≡ sets (sets (start c .args .lent .now) 0 (first (msg (start c)) (start c .args .lent .now))) 9 (start c .args .«data» .now)
+stored : (c : tie.After-copy) → held c ≡ sets (sets (start c .args .lent .now) 0 (first (msg (start c)) (start c .args .lent .now))) 9 (start c .args .payload .now)
 stored c =
-    part-put (headed c) (c .copy .last .1 .0) (start c .args .«data» .now) 9 (omega (arith, room c, same c)) (c .copy .ensures .1)
-    ∙ ap (λ (l : List ℕ). sets l 9 (start c .args .«data» .now)) (put c)
+    part-put (headed c) (c .copy .last .1 .0) (start c .args .payload .now) 9 (omega (arith, room c, same c)) (c .copy .ensures .1)
+    ∙ ap (λ (l : List ℕ). sets l 9 (start c .args .payload .now)) (put c)
 
 same-at : (c : tie.After-copy) → length (held c) ≡ length (start c .args .lent .now)
 same-at c =
     let lent = start c .args .lent .now in
-    ap length (stored c) ∙ length-sets (sets lent 0 (first (msg (start c)) lent)) 9 (start c .args .«data» .now) ∙ length-sets lent 0 (first (msg (start c)) lent)
+    ap length (stored c) ∙ length-sets (sets lent 0 (first (msg (start c)) lent)) 9 (start c .args .payload .now) ∙ length-sets lent 0 (first (msg (start c)) lent)
 
 returns : tie.Need-returns
 returns c =
@@ -76,11 +76,11 @@ returns-2 c =
     let s = c .before .before .before .before in
     no-room (msg s) (s .args .lent .now) (omega arith) (omega arith)
 
-cast-put-head : tie.Need-cast-put-head
-cast-put-head c = search needs
+cast-put-lead : tie.Need-cast-put-lead
+cast-put-lead c = search needs
 
-put-head-requires : tie.Need-put-head-requires
-put-head-requires c κs = search needs
+put-lead-requires : tie.Need-put-lead-requires
+put-lead-requires c κs = search needs
 
 sub-copy : tie.Need-sub-copy
 sub-copy c = search needs
@@ -126,7 +126,7 @@ returns-3 c =
     let k = copied c in
     let s = start k in
     let lent = s .args .lent .now in
-    let sum = c .before .checksum-of .ensures ∙ ap checksum (summed (msg s) lent (held k) (stored k) (room k)) in
+    let sum = c .before .checksum-of .ensures ∙ ap checksum (all-summed (msg s) lent (held k) (stored k) (room k)) in
     done (msg s) lent _ (omega (arith, tested k .before .if1 .left)) (room k)
     (framed (msg s) lent (held k) (c .bytes-of .result .first) (c .bytes-of .result .second) (stored k) (c .bytes-of .ensures ∙ ap wordBytes sum) (room k))
 
@@ -138,8 +138,8 @@ write-spec =
     add-sum-at
     add-length
     returns-2
-    cast-put-head
-    put-head-requires
+    cast-put-lead
+    put-lead-requires
     sub-copy
     part-copy-start
     part-copy-end

@@ -2,7 +2,7 @@
 -- Assumes nothing.
 use mathlib.Core.Path.{subst}
 use lib.ListN.{length-take, length-drop}
-use Rattle.stream.proofs.Lists.{part-front}
+use Rattle.stream.proofs.ListLaws.{part-front}
 use Rattle.fronius.specs.Inside.{Small, given}
 use Rattle.fronius.specs.declared.reader.Answer.{Answer}
 use native.Mathlib.Omega.{arith}

@@ -2,9 +2,9 @@
 -- Assumes nothing.
 use lib.ListN.{length-set}
 use Rattle.stream.specs.Pieces.{scanFrom}
-use Rattle.stream.proofs.Loop.{from-goes}
+use Rattle.stream.proofs.LoopScans.{from-goes}
 use Rattle.fronius.specs.Machine.{filling, next}
-use Rattle.fronius.proofs.Moves.{fill-more}
+use Rattle.fronius.proofs.MachineMoves.{fill-more}
 use native.Mathlib.Omega.{arith}
 use Prim.Native.Nat.{ℕ, _+_, _-_, _≤_}
 use mathlib.Core.Path.{_≡_, refl, _∙_, ap}

@@ -1,7 +1,7 @@
 -- `reader::judge`: by the end of the run.
 -- Assumes nothing.
 use mathlib.Core.Path.{subst}
-use Rattle.stream.specs.Event.{told}
+use Rattle.stream.specs.Event.{outcome}
 use Rattle.stream.specs.Call.{retold}
 use Rattle.fronius.specs.Reader.{header}
 use Rattle.fronius.specs.Inside.{Fits, eventOf}
@@ -28,14 +28,14 @@ enum-told-2 : tie.Need-enum-told-2
 enum-told-2 c = search needs
 
 returns : tie.Need-returns
-returns c = ap (λ (e : End). retold header (told (eventOf e (c .before .before .before .args .held .now)))) (sym (c .enum-told .given .1))
+returns c = ap (λ (e : End). retold header (outcome (eventOf e (c .before .before .before .args .held .now)))) (sym (c .enum-told .given .1))
 
 returns-2 : tie.Need-returns-2
 returns-2 c =
-    c .judge-frame .ensures ∙ ap (λ (e : End). retold header (told (eventOf e (c .before .before .before .before .before .args .held .now)))) (sym (c .before .before .end .given .1))
+    c .judge-frame .ensures ∙ ap (λ (e : End). retold header (outcome (eventOf e (c .before .before .before .before .before .args .held .now)))) (sym (c .before .before .end .given .1))
 
 returns-3 : tie.Need-returns-3
-returns-3 c = ap (λ (e : End). retold header (told (eventOf e (c .before .before .before .args .held .now)))) (sym (c .enum-told2 .given .1))
+returns-3 c = ap (λ (e : End). retold header (outcome (eventOf e (c .before .before .before .args .held .now)))) (sym (c .enum-told2 .given .1))
 
 pub judge-spec : {M : Type 1} → statement M
 judge-spec =

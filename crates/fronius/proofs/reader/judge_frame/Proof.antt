@@ -1,6 +1,6 @@
 -- `reader::judge_frame`: the checksum that came is compared with the one over what is held.
 -- Assumes nothing.
-use Rattle.fronius.proofs.Judge.{judged-right, judged-wrong}
+use Rattle.fronius.proofs.JudgedIsDelivered.{judged-right, judged-wrong}
 use native.Mathlib.Omega.{arith}
 use mathlib.Core.Path.{sym, _∙_}
 use borrow.Author.Needs.{needs}

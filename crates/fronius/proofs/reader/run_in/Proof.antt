@@ -6,13 +6,13 @@ use mathlib.Core.List.{List}
 use lib.ListN.{length-set}
 use Rattle.stream.specs.Event.{Event}
 use Rattle.stream.specs.Pieces.{Called, scan, scanFrom}
-use Rattle.stream.proofs.Loop.{from-start, from-goes, from-tells, from-end}
+use Rattle.stream.proofs.LoopScans.{from-start, from-goes, from-tells, from-end}
 use Rattle.fronius.specs.Wire.{Message}
 use Rattle.fronius.specs.Machine.{moved, next}
 use Rattle.fronius.specs.declared.reader.Reader.{Reader}
 use Rattle.fronius.specs.declared.reader.Move.{Move}
 use Rattle.fronius.specs.declared.reader.Move.the-variants.{Count, Open, Keep, Close, Bad}
-use Rattle.fronius.proofs.Range.{Range, start, body, range-of, in-range, range-len, Asked, asked}
+use Rattle.fronius.proofs.StageRanges.{Range, start, body, range-of, in-range, range-len, Asked, asked}
 use native.Mathlib.Omega.{arith}
 use Prim.Native.Nat.{ℕ, _+_, _-_, _<_, _≤_}
 use mathlib.Core.Path.{_≡_, refl, sym, _∙_, ap}

@@ -9,14 +9,14 @@ use lib.ListN.{length, take, drop}
 use denote.Ref.{now}
 use borrow.Author.Tests.{not-true, not-false}
 use Rattle.answers.specs.declared.Refusal.the-variants.{NoRoom, Spoilt}
-use Rattle.uplink.specs.Packet.{headLength, IsRead}
+use Rattle.uplink.specs.Packet.{leadLength, IsRead}
 use Rattle.uplink.specs.Demands.{Within}
 use Rattle.uplink.specs.declared.Received.the-variants.{Packet}
 use Rattle.uplink.proofs.Demands.{fits}
-use Rattle.ports.specs.Ports.{comlynxLine, eversolarLine, froniusLine}
+use Rattle.ports.specs.Ports.{comlynxSeat, eversolarSeat, froniusSeat}
 use Rattle.listing.specs.Steps.{refused, ends, inRange, roomLeast, made}
 use Rattle.listing.specs.Making.{stopOf, CanTake, packet, taking}
-use Rattle.listing.proofs.Making.{fits as counts-fit, in-few, counts-few, same-made, nothing, line-long, drain-refused, drain-taken, out-of-range, no-room, no-input, too-many, one-packet, refused-packet}
+use Rattle.listing.proofs.StepMakes.{fits as counts-fit, in-few, counts-few, same-made, nothing, line-long, drain-refused, drain-taken, out-of-range, no-room, no-input, too-many, one-packet, refused-packet}
 use borrow.Author.Needs.{needs}
 use Rattle.listing.proofs.Listing.step.Statement.{statement}
 use Rattle.listing.proofs.Listing.step.Tie as tie
@@ -52,8 +52,8 @@ used-of c = c .received .given .0 .1 .1 .0
 abbrev input-of : tie.After-received → List ℕ
 input-of c = now (args-of (from-four (at-packet c)) .args .input)
 
-abbrev line-of : tie.After-received → List ℕ
-line-of c = take (used-of c - headLength) (drop headLength (input-of c))
+abbrev seat-at : tie.After-received → List ℕ
+seat-at c = take (used-of c - leadLength) (drop leadLength (input-of c))
 
 received : (c : tie.After-received) → IsRead (input-of c) (Packet (port-of c) (count-of c) (used-of c))
 received c = subst (IsRead (input-of c)) (c .received .given .1) (c .before .before .read .ensures)
@@ -61,7 +61,7 @@ received c = subst (IsRead (input-of c)) (c .received .given .1) (c .before .bef
 within : (c : tie.After-received) → Within (input-of c) (port-of c) (count-of c) (used-of c)
 within c = fits (input-of c) (Packet (port-of c) (count-of c) (used-of c)) (port-of c) (count-of c) (used-of c) (received c) refl
 
-can-take : (c : tie.After-received) → (let a = args-of (from-four (at-packet c)) .args in CanTake (a .self) (length (line-of c)) (length (now (a .out))))
+can-take : (c : tie.After-received) → (let a = args-of (from-four (at-packet c)) .args in CanTake (a .self) (length (seat-at c)) (length (now (a .out))))
 can-take c =
     let four : tie.Else4 = at-packet c in
     let e = from-four four in
@@ -78,12 +78,12 @@ can-take c =
     }
 
 at-port : (c : tie.After-received) (port : ℕ) → port-of c ≡ port
-    → (let a = args-of (from-four (at-packet c)) .args in taking (a .self) (packet port (line-of c)) ≡ made (a .self) (now (a .input)) (a .ended) (length (now (a .out))))
+    → (let a = args-of (from-four (at-packet c)) .args in taking (a .self) (packet port (seat-at c)) ≡ made (a .self) (now (a .input)) (a .ended) (length (now (a .out))))
 at-port c port is =
     let four : tie.Else4 = at-packet c in
     let e = from-four four in
     let a = args-of e .args in
-    ap (λ (n : ℕ). taking (a .self) (packet n (line-of c))) (sym is)
+    ap (λ (n : ℕ). taking (a .self) (packet n (seat-at c))) (sym is)
     ∙ one-packet (a .self) (now (a .input)) (a .ended) (length (now (a .out))) (counted e) (roomy four) (four .before .before .if3 .left) (four .if4 .left) (port-of c) (count-of c)
     (used-of c) (received c)
 
@@ -150,14 +150,14 @@ read-requires c κs = search needs
 enum-known-received : tie.Need-enum-known-received
 enum-known-received c = search needs
 
-sub-line : tie.Need-sub-line
-sub-line c = omega (arith, within (c .before) .uses)
+sub-piece : tie.Need-sub-piece
+sub-piece c = omega (arith, within (c .before) .uses)
 
-part-line-start : tie.Need-part-line-start
-part-line-start c = omega (arith, within (c .before) .uses)
+part-piece-start : tie.Need-part-piece-start
+part-piece-start c = omega (arith, within (c .before) .uses)
 
-part-line-end : tie.Need-part-line-end
-part-line-end c = omega (arith, within (c .before) .there)
+part-piece-end : tie.Need-part-piece-end
+part-piece-end c = omega (arith, within (c .before) .there)
 
 drain-comlynx-requires : tie.Need-drain-comlynx-requires
 drain-comlynx-requires c κs = let t = can-take (c .before .before .before .before .before .before) in (omega arith, omega arith, t .some, t .most, t .lent)
@@ -176,7 +176,7 @@ returns-5 c =
     let is : port-of p ≡ 1 = omega (arith, c .before .before .before .before .before .before .before .before .if5 .taken) in
     let r = c .refused3 in
     same-made (a .self) (now (a .out)) (d .last .1 .1 .1 .0) (r .result) (at-port p 1 is)
-    (drain-refused comlynxLine (a .self) (line-of p) (now (a .out)) (d .last .1 .1 .1 .0) (d .result .reader) (d .result .spoilt) (d .result .wrote) (d .result .messages) (d .result .damages)
+    (drain-refused comlynxSeat (a .self) (seat-at p) (now (a .out)) (d .last .1 .1 .1 .0) (d .result .reader) (d .result .spoilt) (d .result .wrote) (d .result .messages) (d .result .damages)
     (r .result) (d .ensures) (c .before .if6 .taken) (r .ensures))
 
 add-self : tie.Need-add-self
@@ -209,7 +209,7 @@ returns-6 c =
     let is : port-of p ≡ 1 = omega (arith, c .before .before .before .before .before .before .before .before .before .before .before .before .before .before .if5 .taken) in
     let r = c .taken in
     same-made (a .self) (now (a .out)) (d .last .1 .1 .1 .0) (r .result) (at-port p 1 is)
-    (drain-taken comlynxLine (a .self) (line-of p) (now (a .out)) (d .last .1 .1 .1 .0) (d .result .reader) (d .result .spoilt) (d .result .wrote) (d .result .messages) (d .result .damages)
+    (drain-taken comlynxSeat (a .self) (seat-at p) (now (a .out)) (d .last .1 .1 .1 .0) (d .result .reader) (d .result .spoilt) (d .result .wrote) (d .result .messages) (d .result .damages)
     (r .result) (d .ensures) (c .before .before .before .before .before .before .before .if6 .left) (can-take p) (r .ensures))
 
 drain-eversolar-requires : tie.Need-drain-eversolar-requires
@@ -229,7 +229,7 @@ returns-7 c =
     let is : port-of p ≡ 2 = omega (arith, c .before .before .before .before .before .before .before .before .if7 .taken) in
     let r = c .refused4 in
     same-made (a .self) (now (a .out)) (d .last .1 .1 .1 .0) (r .result) (at-port p 2 is)
-    (drain-refused eversolarLine (a .self) (line-of p) (now (a .out)) (d .last .1 .1 .1 .0) (d .result .reader) (d .result .spoilt) (d .result .wrote) (d .result .messages) (d .result .damages)
+    (drain-refused eversolarSeat (a .self) (seat-at p) (now (a .out)) (d .last .1 .1 .1 .0) (d .result .reader) (d .result .spoilt) (d .result .wrote) (d .result .messages) (d .result .damages)
     (r .result) (d .ensures) (c .before .if8 .taken) (r .ensures))
 
 add-self-4 : tie.Need-add-self-4
@@ -262,7 +262,7 @@ returns-8 c =
     let is : port-of p ≡ 2 = omega (arith, c .before .before .before .before .before .before .before .before .before .before .before .before .before .before .if7 .taken) in
     let r = c .taken2 in
     same-made (a .self) (now (a .out)) (d .last .1 .1 .1 .0) (r .result) (at-port p 2 is)
-    (drain-taken eversolarLine (a .self) (line-of p) (now (a .out)) (d .last .1 .1 .1 .0) (d .result .reader) (d .result .spoilt) (d .result .wrote) (d .result .messages) (d .result .damages)
+    (drain-taken eversolarSeat (a .self) (seat-at p) (now (a .out)) (d .last .1 .1 .1 .0) (d .result .reader) (d .result .spoilt) (d .result .wrote) (d .result .messages) (d .result .damages)
     (r .result) (d .ensures) (c .before .before .before .before .before .before .before .if8 .left) (can-take p) (r .ensures))
 
 drain-fronius-requires : tie.Need-drain-fronius-requires
@@ -282,7 +282,7 @@ returns-9 c =
     let is : port-of p ≡ 3 = omega (arith, within p .first, within p .last, c .before .before .before .before .before .before .before .before .before .if5 .left, c .before .before .before .before .before .before .before .before .if7 .left) in
     let r = c .refused5 in
     same-made (a .self) (now (a .out)) (d .last .1 .1 .1 .0) (r .result) (at-port p 3 is)
-    (drain-refused froniusLine (a .self) (line-of p) (now (a .out)) (d .last .1 .1 .1 .0) (d .result .reader) (d .result .spoilt) (d .result .wrote) (d .result .messages) (d .result .damages)
+    (drain-refused froniusSeat (a .self) (seat-at p) (now (a .out)) (d .last .1 .1 .1 .0) (d .result .reader) (d .result .spoilt) (d .result .wrote) (d .result .messages) (d .result .damages)
     (r .result) (d .ensures) (c .before .if9 .taken) (r .ensures))
 
 add-self-7 : tie.Need-add-self-7
@@ -321,7 +321,7 @@ returns-10 c =
     let is : port-of p ≡ 3 = omega (arith, within p .first, within p .last, c .before .before .before .before .before .before .before .before .before .before .before .before .before .before .before .if5 .left, c .before .before .before .before .before .before .before .before .before .before .before .before .before .before .if7 .left) in
     let r = c .taken3 in
     same-made (a .self) (now (a .out)) (d .last .1 .1 .1 .0) (r .result) (at-port p 3 is)
-    (drain-taken froniusLine (a .self) (line-of p) (now (a .out)) (d .last .1 .1 .1 .0) (d .result .reader) (d .result .spoilt) (d .result .wrote) (d .result .messages) (d .result .damages)
+    (drain-taken froniusSeat (a .self) (seat-at p) (now (a .out)) (d .last .1 .1 .1 .0) (d .result .reader) (d .result .spoilt) (d .result .wrote) (d .result .messages) (d .result .damages)
     (r .result) (d .ensures) (c .before .before .before .before .before .before .before .if9 .left) (can-take p) (r .ensures))
 
 same-length-9 : tie.Need-same-length-9
@@ -356,9 +356,9 @@ step-spec =
     returns-4
     read-requires
     enum-known-received
-    sub-line
-    part-line-start
-    part-line-end
+    sub-piece
+    part-piece-start
+    part-piece-end
     drain-comlynx-requires
     refused-requires-3
     same-length-3

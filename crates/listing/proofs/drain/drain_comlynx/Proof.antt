@@ -13,7 +13,7 @@ use native.Mathlib.Omega.{arith}
 use borrow.Author.Needs.{needs}
 use Rattle.stream.specs.Event.{Event}
 use Rattle.stream.specs.Call.{lentLeast, retold}
-use Rattle.stream.proofs.Host.{Fine, step-used, step-fits}
+use Rattle.stream.proofs.HostRelies.{Fine, step-used, step-fits}
 use Rattle.comlynx.specs.Wire.{Message}
 use Rattle.comlynx.specs.Machine.{next}
 use Rattle.comlynx.specs.Reader.{inRange, header, told, shown, join, IsStep}
@@ -22,27 +22,27 @@ use Rattle.comlynx.specs.declared.reader.Header.{Header}
 use Rattle.comlynx.specs.declared.reader.Step.{Step}
 use Rattle.comlynx.specs.declared.reader.Answer.{Answer}
 use Rattle.comlynx.specs.declared.reader.Answer.the-variants.{Done, Message as Read, Damaged, Refused}
-use Rattle.uplink.specs.Packet.{lineMax}
+use Rattle.uplink.specs.Packet.{pieceMax}
 use Rattle.listing.specs.Entries.{showComlynx}
 use Rattle.listing.specs.Steps.{roomLeast}
-use Rattle.listing.proofs.Room.{lineFor, perByte, heldMost, Weighs, comlynxWeight, comlynx-weighs, comlynx-heavy}
-use Rattle.listing.proofs.Draining.{rest, rest-length, into, messageFor, damageFor, given, Went, went, spoils, Kept, begins, kept-length, line-used, line-uses, line-room, turns, ends, ends-spoilt}
+use Rattle.listing.proofs.LinesFit.{lineFor, perByte, heldMost, Weighs, comlynxWeight, comlynx-weighs, comlynx-heavy}
+use Rattle.listing.proofs.DrainReadsPiece.{rest, rest-length, into, messageFor, damageFor, given, Went, went, spoils, Kept, begins, kept-length, line-used, line-uses, line-room, turns, ends, ends-spoilt}
 use Rattle.listing.proofs.drain.drain_comlynx.Statement.{statement}
 use Rattle.listing.proofs.drain.drain_comlynx.Tie as tie
 
 -- header and data make up the message
-joins : (m : Message) (rest : List ℕ) → join (header m) (m .bytes ++ rest) ≡ m
-joins m rest = ap {B = Message} (λ (l : List ℕ). record { source = m .source; destination = m .destination; kind = m .kind; bytes = l }) (take-append-seam (m .bytes) rest)
+joins : (m : Message) (rest : List ℕ) → join (header m) (m .payload ++ rest) ≡ m
+joins m rest = ap {B = Message} (λ (l : List ℕ). record { source = m .source; destination = m .destination; kind = m .kind; payload = l }) (take-append-seam (m .payload) rest)
 
-abbrev Keeps : (port : ℕ) → Reader → (line out₀ : List ℕ) → Reader → (at wrote messages damages : ℕ) → (out : List ℕ) → Type 0
-Keeps port = Kept next inRange header (λ m. m .bytes) shown join joins showComlynx port comlynxWeight
+abbrev Keeps : (port : ℕ) → Reader → (piece out₀ : List ℕ) → Reader → (at wrote messages damages : ℕ) → (out : List ℕ) → Type 0
+Keeps port = Kept next inRange header (λ m. m .payload) shown join joins showComlynx port comlynxWeight
 
 abbrev Inv-loop : tie.InvT-loop
-Inv-loop port line out₀ lent₀ s₀ spoilt₀ wrote₀ messages₀ damages₀ at₀ out lent s spoilt wrote messages damages at =
-    Keeps port (s₀ .reader) line out₀ (s .reader) at wrote messages damages out × (length lent ≡ lentLeast) × (spoilt ≡ false)
+Inv-loop port piece out₀ lent₀ s₀ spoilt₀ wrote₀ messages₀ damages₀ at₀ out lent s spoilt wrote messages damages at =
+    Keeps port (s₀ .reader) piece out₀ (s .reader) at wrote messages damages out × (length lent ≡ lentLeast) × (spoilt ≡ false)
 
 abbrev μ-loop : tie.MeasureT-loop
-μ-loop port line out₀ lent₀ s₀ spoilt₀ wrote₀ messages₀ damages₀ at₀ out lent s spoilt wrote messages damages at = length line - at
+μ-loop port piece out₀ lent₀ s₀ spoilt₀ wrote₀ messages₀ damages₀ at₀ out lent s spoilt wrote messages damages at = length piece - at
 
 -- ---- a turn, and what is known of its call
 
@@ -50,7 +50,7 @@ abbrev portOf : tie.At-loop Inv-loop μ-loop → ℕ
 portOf l = l .before .before .before .args .port
 
 abbrev entryLine : tie.At-loop Inv-loop μ-loop → List ℕ
-entryLine l = l .before .before .before .args .line .now
+entryLine l = l .before .before .before .args .piece .now
 
 abbrev leftOf : tie.At-loop Inv-loop μ-loop → List ℕ
 leftOf l = drop (l .loop .at) (entryLine l)
@@ -61,11 +61,11 @@ outOf l = l .before .before .before .args .out .now
 weighs : (l : tie.At-loop Inv-loop μ-loop) → Weighs next showComlynx (portOf l) comlynxWeight
 weighs l = comlynx-weighs (portOf l) (omega (arith, l .before .before .before .pre .1))
 
-short : (l : tie.At-loop Inv-loop μ-loop) → length (entryLine l) ≤ lineMax
+short : (l : tie.At-loop Inv-loop μ-loop) → length (entryLine l) ≤ pieceMax
 short l = l .before .before .before .pre .3
 
 same : (l : tie.At-loop Inv-loop μ-loop) → length (l .loop .out) ≡ length (outOf l)
-same l = kept-length next inRange header (λ m. m .bytes) shown join joins showComlynx (portOf l) comlynxWeight (weighs l) (l .loop .inv .0)
+same l = kept-length next inRange header (λ m. m .payload) shown join joins showComlynx (portOf l) comlynxWeight (weighs l) (l .loop .inv .0)
 
 wide : (l : tie.At-loop Inv-loop μ-loop) → roomLeast ≤ length (l .loop .out)
 wide l = omega (arith, l .before .before .before .pre .4, same l)
@@ -87,11 +87,11 @@ lent-later : (c : tie.After-step Inv-loop μ-loop) → length (later c) ≡ leng
 lent-later c = c .step .kept .1 .1 .0
 
 used-at-most : (c : tie.After-step Inv-loop μ-loop) → c .step .result .used ≤ length (leftOf (turn c))
-used-at-most c = step-used next inRange header (λ m. m .bytes) shown (turn c .loop .s .reader) (leftOf (turn c)) (turn c .loop .lent) (later c) (c .step .result) (stepped c)
+used-at-most c = step-used next inRange header (λ m. m .payload) shown (turn c .loop .s .reader) (leftOf (turn c)) (turn c .loop .lent) (later c) (c .step .result) (stepped c)
 
 fits : (c : tie.After-step Inv-loop μ-loop) (h : Header) → c .step .result .answer ≡ Read h → h .len ≤ lentLeast
 fits c h e =
-    let u = step-fits next inRange header (λ m. m .bytes) shown (λ (v : Header). v .len) (λ m. refl) (turn c .loop .s .reader) (leftOf (turn c)) (turn c .loop .lent) (later c) (c .step .result) h (stepped c) (lent-later c) (ap told e) in
+    let u = step-fits next inRange header (λ m. m .payload) shown (λ (v : Header). v .len) (λ m. refl) (turn c .loop .s .reader) (leftOf (turn c)) (turn c .loop .lent) (later c) (c .step .result) h (stepped c) (lent-later c) (ap told e) in
     omega (arith, turn c .loop .inv .1)
 
 -- ---- a call that was not refused
@@ -104,24 +104,24 @@ module _ (c : tie.After-step Inv-loop μ-loop) where
   lineTold a = lineFor showComlynx (portOf (turn c)) (tells a)
 
   module _ (a : Answer) (e : c .step .result .answer ≡ a) (fine : Fine (told a)) where
-    goes : Went next inRange header (λ m. m .bytes) shown join joins (turn c .loop .s .reader) (leftOf (turn c)) (c .step .result) (tells a)
+    goes : Went next inRange header (λ m. m .payload) shown join joins (turn c .loop .s .reader) (leftOf (turn c)) (c .step .result) (tells a)
     goes =
-        went next inRange header (λ m. m .bytes) shown join joins (turn c .loop .s .reader) (leftOf (turn c)) (turn c .loop .lent) (later c) (c .step .result)
+        went next inRange header (λ m. m .payload) shown join joins (turn c .loop .s .reader) (leftOf (turn c)) (turn c .loop .lent) (later c) (c .step .result)
         (stepped c) (lent-least c) (tells a) (subst (λ (v : Answer). Fine (told v)) (sym e) fine) (ap tells e)
 
     uses : turn c .loop .at + c .step .result .used ≤ length (entryLine (turn c))
-    uses = line-used next inRange header (λ m. m .bytes) shown join joins showComlynx (portOf (turn c)) comlynxWeight (weighs (turn c)) (turn c .loop .inv .0) goes
+    uses = line-used next inRange header (λ m. m .payload) shown join joins showComlynx (portOf (turn c)) comlynxWeight (weighs (turn c)) (turn c .loop .inv .0) goes
 
     moves : 0 < c .step .result .used
     moves =
-        line-uses next inRange header (λ m. m .bytes) shown join joins showComlynx (portOf (turn c)) comlynxWeight (weighs (turn c)) (turn c .loop .inv .0) goes
+        line-uses next inRange header (λ m. m .payload) shown join joins showComlynx (portOf (turn c)) comlynxWeight (weighs (turn c)) (turn c .loop .inv .0) goes
         (c .before .before .before .loop-test .taken)
 
     -- there is room for its line
-    room : turn c .loop .wrote + length (lineTold a) ≤ heldMost + perByte * lineMax
+    room : turn c .loop .wrote + length (lineTold a) ≤ heldMost + perByte * pieceMax
     room =
         omega
-        (arith, uses, short (turn c), line-room next inRange header (λ m. m .bytes) shown join joins showComlynx (portOf (turn c)) comlynxWeight (weighs (turn c)) (turn c .loop .inv .0) goes)
+        (arith, uses, short (turn c), line-room next inRange header (λ m. m .payload) shown join joins showComlynx (portOf (turn c)) comlynxWeight (weighs (turn c)) (turn c .loop .inv .0) goes)
 
     part-room : length (lineTold a) ≤ length (take (length (turn c .loop .out) - turn c .loop .wrote) (drop (turn c .loop .wrote) (turn c .loop .out)))
     part-room = omega (arith, room, wide (turn c), rest-length (turn c .loop .out) (turn c .loop .wrote))
@@ -134,7 +134,7 @@ module _ (c : tie.After-step Inv-loop μ-loop) where
         (turn c .loop .at + c .step .result .used) wrote messages damages out
         × (length (later c) ≡ lentLeast) × (turn c .loop .spoilt ≡ false)
     keeps wrote messages damages out ew em ed eo = (
-      turns next inRange header (λ m. m .bytes) shown join joins showComlynx (portOf (turn c)) comlynxWeight (weighs (turn c)) (turn c .loop .inv .0) goes (stepped c .2)
+      turns next inRange header (λ m. m .payload) shown join joins showComlynx (portOf (turn c)) comlynxWeight (weighs (turn c)) (turn c .loop .inv .0) goes (stepped c .2)
           (c .before .before .before .loop-test .taken) wrote messages damages out ew em ed eo,
       lent-later c ∙ turn c .loop .inv .1,
       turn c .loop .inv .2,
@@ -147,7 +147,7 @@ back c = c .before .before
 
 loop-holds : tie.Need-loop-holds Inv-loop μ-loop
 loop-holds c = (
-  begins next inRange header (λ m. m .bytes) shown join joins showComlynx (c .before .before .args .port) comlynxWeight comlynx-heavy (c .before .before .args .reader) (c .before .before .args .line .now) (c .before .before .args .out .now),
+  begins next inRange header (λ m. m .payload) shown join joins showComlynx (c .before .before .args .port) comlynxWeight comlynx-heavy (c .before .before .args .reader) (c .before .before .args .piece .now) (c .before .before .args .out .now),
   length-replicate {A = ℕ} lentLeast 0,
   refl,
 )
@@ -302,12 +302,12 @@ returns c =
     let x = c .before .loop-test in
     ⊎-elim
     (λ a.
-    ends next inRange header (λ m. m .bytes) shown join joins showComlynx (portOf l) comlynxWeight (weighs l) (l .loop .inv .0) (x .s .reader) (x .spoilt)
+    ends next inRange header (λ m. m .payload) shown join joins showComlynx (portOf l) comlynxWeight (weighs l) (l .loop .inv .0) (x .s .reader) (x .spoilt)
     (ap (λ (v : Step). v .reader) (a .1)) (a .2 ∙ l .loop .inv .2) (a .0 .left) (s .pre .2) (s .pre .3) (s .pre .4))
     (λ b.
     let k : tie.After-step Inv-loop μ-loop = record { before = record { before = record { before = record { before = l; loop-test = b .0 }; step-arg = b .1 }; lent = b .2 }; step = b .3 } in
-    let bad = spoils next inRange header (λ m. m .bytes) shown join joins (l .loop .s .reader) (leftOf l) (l .loop .lent) (later k) (k .step .result) (stepped k) (lent-least k) _ (ap told (b .7 .given .1)) in
-    ends-spoilt next inRange header (λ m. m .bytes) shown join joins showComlynx (portOf l) comlynxWeight (weighs l) (l .loop .inv .0) (x .s .reader) (x .spoilt)
+    let bad = spoils next inRange header (λ m. m .payload) shown join joins (l .loop .s .reader) (leftOf l) (l .loop .lent) (later k) (k .step .result) (stepped k) (lent-least k) _ (ap told (b .7 .given .1)) in
+    ends-spoilt next inRange header (λ m. m .payload) shown join joins showComlynx (portOf l) comlynxWeight (weighs l) (l .loop .inv .0) (x .s .reader) (x .spoilt)
     (ap (λ (v : Step). v .reader) (b .8) ∙ bad .1) (b .9) (bad .0) (s .pre .3))
     (x .came)
 

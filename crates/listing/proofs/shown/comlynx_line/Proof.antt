@@ -4,15 +4,15 @@ use native.Mathlib.Omega.{arith}
 use borrow.Author.Needs.{needs}
 use lib.ListN.{length-take}
 use Rattle.comlynx.specs.Reader.{join}
-use Rattle.lines.specs.Lines.{Shown, tooLong, messageLine}
-use Rattle.lines.proofs.Laws.{not-too-long}
+use Rattle.listing_text.specs.Lines.{Shown, tooLong, messageLine}
+use Rattle.listing_text.proofs.LineLengths.{not-too-long}
 use Rattle.listing.specs.Entries.{showComlynx}
-use Rattle.listing.proofs.Draining.{put-line}
+use Rattle.listing.proofs.DrainReadsPiece.{put-line}
 use Rattle.listing.proofs.shown.comlynx_line.Statement.{statement}
 use Rattle.listing.proofs.shown.comlynx_line.Tie as tie
 
 abbrev given : tie.Start → Shown
-given c = showComlynx (join (c .args .h) (c .args .content .now))
+given c = showComlynx (join (c .args .h) (c .args .payload .now))
 
 cast-t10 : tie.Need-cast-t10
 cast-t10 c = search needs

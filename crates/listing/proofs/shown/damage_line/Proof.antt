@@ -4,8 +4,8 @@ use borrow.Author.Needs.{needs}
 use mathlib.Core.Path.{refl, ap, subst}
 use mathlib.Core.Bool.{false}
 use Rattle.answers.specs.Damage as DamageNumber
-use Rattle.lines.specs.Lines.{damageLine}
-use Rattle.listing.proofs.Draining.{put-line}
+use Rattle.listing_text.specs.Lines.{damageLine}
+use Rattle.listing.proofs.DrainReadsPiece.{put-line}
 use Rattle.listing.proofs.shown.damage_line.Statement.{statement}
 use Rattle.listing.proofs.shown.damage_line.Tie as tie
 
@@ -26,7 +26,7 @@ returns c =
     let m = c .before .before .before in
     let n = m .before .before in
     let s = n .before .before in
-    put-line false (damageLine (s .args .port) (DamageNumber.told (s .args .what))) (s .args .out .now) _ (m .damage .result) _ (rw (n .number .ensures) at (m .damage .ensures)) refl (s .pre) (c .length-of .ensures)
+    put-line false (damageLine (s .args .port) (DamageNumber.number (s .args .what))) (s .args .out .now) _ (m .damage .result) _ (rw (n .number .ensures) at (m .damage .ensures)) refl (s .pre) (c .length-of .ensures)
 
 pub damage-line-spec : {M : Type 1} → statement M
 damage-line-spec = tie.close (tie.spec number-requires damage-requires length-of-requires same-length returns)

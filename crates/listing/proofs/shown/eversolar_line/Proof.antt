@@ -4,15 +4,15 @@ use native.Mathlib.Omega.{arith}
 use borrow.Author.Needs.{needs}
 use lib.ListN.{length-take}
 use Rattle.eversolar.specs.Reader.{join}
-use Rattle.lines.specs.Lines.{Shown, tooLong, messageLine}
-use Rattle.lines.proofs.Laws.{not-too-long}
+use Rattle.listing_text.specs.Lines.{Shown, tooLong, messageLine}
+use Rattle.listing_text.proofs.LineLengths.{not-too-long}
 use Rattle.listing.specs.Entries.{showEversolar}
-use Rattle.listing.proofs.Draining.{put-line}
+use Rattle.listing.proofs.DrainReadsPiece.{put-line}
 use Rattle.listing.proofs.shown.eversolar_line.Statement.{statement}
 use Rattle.listing.proofs.shown.eversolar_line.Tie as tie
 
 abbrev given : tie.Start → Shown
-given c = showEversolar (join (c .args .h) (c .args .content .now))
+given c = showEversolar (join (c .args .h) (c .args .payload .now))
 
 slice-aggregate-message : tie.Need-slice-aggregate-message
 slice-aggregate-message c = search needs

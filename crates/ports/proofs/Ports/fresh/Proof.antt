@@ -1,7 +1,7 @@
 -- `Ports::fresh`: each of the three is its family's.
 -- Assumes nothing.
 use borrow.Author.Needs.{needs}
-use Rattle.ports.proofs.Rows.{each-line}
+use Rattle.ports.proofs.EveryRow.{each-seat}
 use Rattle.ports.proofs.Ports.fresh.Statement.{statement}
 use Rattle.ports.proofs.Ports.fresh.Tie as tie
 
@@ -15,7 +15,7 @@ fresh-requires-3 : tie.Need-fresh-requires-3
 fresh-requires-3 c κs = search needs
 
 returns : tie.Need-returns
-returns c = each-line _ (c .before .before .fresh .ensures) (c .before .fresh2 .ensures) (c .fresh3 .ensures)
+returns c = each-seat _ (c .before .before .fresh .ensures) (c .before .fresh2 .ensures) (c .fresh3 .ensures)
 
 pub fresh-spec : {M : Type 1} → statement M
 fresh-spec = tie.close (tie.spec fresh-requires fresh-requires-2 fresh-requires-3 returns)

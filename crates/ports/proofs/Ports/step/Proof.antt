@@ -2,9 +2,9 @@
 -- Assumes nothing.
 use mathlib.Core.Path.{refl}
 use borrow.Author.Needs.{needs}
-use Rattle.ports.specs.Ports.{comlynxLine, eversolarLine, froniusLine}
-use Rattle.ports.proofs.Rows.{each-line}
-use Rattle.ports.proofs.Table.{answered, line-of, no-line}
+use Rattle.ports.specs.Ports.{comlynxSeat, eversolarSeat, froniusSeat}
+use Rattle.ports.proofs.EveryRow.{each-seat}
+use Rattle.ports.proofs.TableLaws.{answered, seat-at, no-seat}
 use Rattle.ports.proofs.Ports.step.Statement.{statement}
 use Rattle.ports.proofs.Ports.step.Tie as tie
 
@@ -20,7 +20,7 @@ same-length c = search needs
 returns : tie.Need-returns
 returns c =
     let s = c .before .before .before .before in
-    rw (line-of comlynxLine (s .before .before .if1 .taken)) (s .step .result, s .step .ensures, answered _ _ (c .comlynx-answer .ensures))
+    rw (seat-at comlynxSeat (s .before .before .if1 .taken)) (s .step .result, s .step .ensures, answered _ _ (c .comlynx-answer .ensures))
 
 step-requires-2 : tie.Need-step-requires-2
 step-requires-2 c κs = search needs
@@ -34,7 +34,7 @@ same-length-2 c = search needs
 returns-2 : tie.Need-returns-2
 returns-2 c =
     let s = c .before .before .before .before in
-    rw (line-of eversolarLine (s .before .before .if2 .taken)) (s .step2 .result, s .step2 .ensures, answered _ _ (c .eversolar-answer .ensures))
+    rw (seat-at eversolarSeat (s .before .before .if2 .taken)) (s .step2 .result, s .step2 .ensures, answered _ _ (c .eversolar-answer .ensures))
 
 step-requires-3 : tie.Need-step-requires-3
 step-requires-3 c κs = search needs
@@ -48,10 +48,10 @@ same-length-3 c = search needs
 returns-3 : tie.Need-returns-3
 returns-3 c =
     let s = c .before .before .before .before in
-    rw (line-of froniusLine (s .before .before .if3 .taken)) (s .step3 .result, s .step3 .ensures, answered _ _ (c .fronius-answer .ensures))
+    rw (seat-at froniusSeat (s .before .before .if3 .taken)) (s .step3 .result, s .step3 .ensures, answered _ _ (c .fronius-answer .ensures))
 
 returns-4 : tie.Need-returns-4
-returns-4 c = rw (no-line _ (each-line _ (c .before .before .if1 .left) (c .before .if2 .left) (c .if3 .left))) (refl, refl)
+returns-4 c = rw (no-seat _ (each-seat _ (c .before .before .if1 .left) (c .before .if2 .left) (c .if3 .left))) (refl, refl)
 
 pub step-spec : {M : Type 1} → statement M
 step-spec =

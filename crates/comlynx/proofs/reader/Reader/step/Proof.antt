@@ -1,12 +1,12 @@
 use mathlib.Core.List.{List}
 use mathlib.Core.Option.{Option, none, some}
 use lib.ListN.{length-map}
-use Rattle.fcs.specs.Fcs.{fcsOf}
+use Rattle.comlynx_checksum.specs.Fcs.{fcsOf}
 use Rattle.stream.specs.Event.{Event, gives}
 use Rattle.stream.specs.Event as Event
 use Rattle.stream.specs.Call.{Seen, retold, delivered}
 use Rattle.stream.specs.Pieces.{Called, scan}
-use Rattle.stream.proofs.Call.{steps-spoilt, steps-no-room, steps-scan}
+use Rattle.stream.proofs.PromiseOfStep.{steps-spoilt, steps-no-room, steps-scan}
 use Rattle.comlynx.specs.Wire.{Message}
 use Rattle.comlynx.specs.Rules.{judged}
 use Rattle.comlynx.specs.Machine.{closed, next}
@@ -20,7 +20,7 @@ use Rattle.comlynx.specs.declared.reader.Answer.{Answer}
 use Rattle.comlynx.specs.declared.reader.Answer.the-variants.{Done, Damaged, Refused}
 use Rattle.answers.specs.declared.Refusal.the-variants.{NoRoom, Spoilt}
 use Rattle.answers.specs.declared.Damage.the-variants.{BrokenPair}
-use Rattle.comlynx.proofs.Judge.{closes, delivers}
+use Rattle.comlynx.proofs.JudgedIsDelivered.{closes, delivers}
 use Prim.Native.Nat.{ℕ, _-_}
 use mathlib.Core.Path.{_≡_, refl, sym, _∙_, ap}
 use mathlib.Core.Bool.{Bool, true}
@@ -57,11 +57,11 @@ scanned c e p = c .run-in .ensures .scanned ∙ ap {B = Called Reader (Event Mes
 -- a call that scanned its piece, by what it tells and leaves
 ends : (c : tie.After-run-in) (later : List ℕ) (x : Answer) (o : Option (Event Message))
     → scan next (start c .args .t1) (start c .args .piece .now) ≡ record { state = after c; event = o; used = c .run-in .result .used }
-    → told x ≡ retold header (Event.told o) → later ≡ delivered (λ m. m .bytes) (Event.told o) (start c .args .lent .now)
+    → told x ≡ retold header (Event.outcome o) → later ≡ delivered (λ m. m .payload) (Event.outcome o) (start c .args .lent .now)
     → IsStep (start c .args .t1) (start c .args .piece .now) (start c .args .lent .now) (record { reader = after c; answer = x; used = c .run-in .result .used }) later
 ends c later x o e f g =
     let a = start c .args in
-    steps-scan next inRange header (λ m. m .bytes) shown (a .t1) (a .piece .now) (a .lent .now) later (record { reader = after c; answer = x; used = c .run-in .result .used }) _ (sound-at (c .before .before .before)) (c .before .before .if2 .left) e
+    steps-scan next inRange header (λ m. m .payload) shown (a .t1) (a .piece .now) (a .lent .now) later (record { reader = after c; answer = x; used = c .run-in .result .used }) _ (sound-at (c .before .before .before)) (c .before .before .if2 .left) e
     (ap {B = Seen Reader Header} (λ t. record { state = after c; told = t; used = c .run-in .result .used }) f) g (c .run-in .ensures .ranged)
 
 -- where a stretch closed: the run, the count, the event by what is due, and what it delivers
@@ -98,7 +98,7 @@ tells : (c : tie.After-judge) → told (c .judge .result) ≡ retold header (giv
 tells c = c .judge .ensures
 
 result : (c : tie.After-judge) → Small (c .judge .result)
-    × (given (c .judge .result) (held (ran c)) (start (ran c) .args .lent .now) ≡ delivered (λ (m : Message). m .bytes) (gives (judged (N c) (right c) (take (N c) (held (ran c))))) (start (ran c) .args .lent .now))
+    × (given (c .judge .result) (held (ran c)) (start (ran c) .args .lent .now) ≡ delivered (λ (m : Message). m .payload) (gives (judged (N c) (right c) (take (N c) (held (ran c))))) (start (ran c) .args .lent .now))
 result c = delivers (N c) (right c) (held (ran c)) (start (ran c) .args .lent .now) (c .judge .result) (full (ran c)) (c .judge .ensures)
 
 in-range-requires : tie.Need-in-range-requires
@@ -107,7 +107,7 @@ in-range-requires c κs = search needs
 returns : tie.Need-returns
 returns c =
     let a = c .before .before .before .before .before .args in
-    steps-no-room next inRange header (λ m. m .bytes) shown (a .t1) (a .piece .now) (a .lent .now) (record { reader = a .t1; answer = Refused NoRoom; used = 0 }) (sound-at (c .before)) (c .if2 .taken) refl
+    steps-no-room next inRange header (λ m. m .payload) shown (a .t1) (a .piece .now) (a .lent .now) (record { reader = a .t1; answer = Refused NoRoom; used = 0 }) (sound-at (c .before)) (c .if2 .taken) refl
 
 run-in-requires : tie.Need-run-in-requires
 run-in-requires c κs = (sound-at (c .before .before), full-at (c .before .before .before .before .before .before))
@@ -157,7 +157,7 @@ returns-4 c =
 returns-5 : tie.Need-returns-5
 returns-5 c =
     let a = c .before .before .before .before .args in
-    steps-spoilt next inRange header (λ m. m .bytes) shown (a .t1) (a .piece .now) (a .lent .now) (record { reader = a .t1; answer = Refused Spoilt; used = 0 }) (sym (c .before .in-range .ensures) ∙ c .if1 .left) refl
+    steps-spoilt next inRange header (λ m. m .payload) shown (a .t1) (a .piece .now) (a .lent .now) (record { reader = a .t1; answer = Refused Spoilt; used = 0 }) (sym (c .before .in-range .ensures) ∙ c .if1 .left) refl
 
 pub step-spec : {M : Type 1} → statement M
 step-spec =

@@ -2,9 +2,9 @@
 -- Assumes nothing.
 use mathlib.Core.List.{List}
 use lib.ListN.{length-map}
-use Rattle.stream.specs.Event.{told}
+use Rattle.stream.specs.Event.{outcome}
 use Rattle.stream.specs.Call.{Seen, delivered}
-use Rattle.stream.proofs.Call.{steps-spoilt, steps-no-room, steps-scan}
+use Rattle.stream.proofs.PromiseOfStep.{steps-spoilt, steps-no-room, steps-scan}
 use Rattle.fronius.specs.Wire.{Message}
 use Rattle.fronius.specs.Machine.{next}
 use Rattle.fronius.specs.Reader.{inRange, header, shown}
@@ -13,7 +13,7 @@ use Rattle.fronius.specs.declared.reader.Reader.{Reader}
 use Rattle.fronius.specs.declared.reader.Header.{Header}
 use Rattle.fronius.specs.declared.reader.Answer.the-variants.{Refused}
 use Rattle.answers.specs.declared.Refusal.the-variants.{NoRoom, Spoilt}
-use Rattle.fronius.proofs.Judge.{delivers}
+use Rattle.fronius.proofs.JudgedIsDelivered.{delivers}
 use Prim.Native.Nat.{ℕ}
 use mathlib.Core.Path.{_≡_, refl, sym, _∙_, ap}
 use mathlib.Core.Bool.{true}
@@ -47,7 +47,7 @@ abbrev ran : tie.After-judge → tie.After-run-in
 ran c = c .before .before .before .before
 
 judged : (c : tie.After-judge) → Small (c .judge .result)
-    × (given (c .judge .result) (held (ran c)) (start (ran c) .args .lent .now) ≡ delivered (λ (m : Message). m .bytes) (told (eventOf (ran c .run-in .result .end) (held (ran c)))) (start (ran c) .args .lent .now))
+    × (given (c .judge .result) (held (ran c)) (start (ran c) .args .lent .now) ≡ delivered (λ (m : Message). m .payload) (outcome (eventOf (ran c .run-in .result .end) (held (ran c)))) (start (ran c) .args .lent .now))
 judged c = delivers (ran c .run-in .result .end) (held (ran c)) (start (ran c) .args .lent .now) (c .judge .result) (ran c .run-in .ensures .fits) (full (ran c)) (c .judge .ensures)
 
 in-range-requires : tie.Need-in-range-requires
@@ -56,7 +56,7 @@ in-range-requires c κs = search needs
 returns : tie.Need-returns
 returns c =
     let a = c .before .before .before .before .before .args in
-    steps-no-room next inRange header (λ m. m .bytes) shown (a .t1) (a .piece .now) (a .lent .now) (record { reader = a .t1; answer = Refused NoRoom; used = 0 }) (sound-at (c .before)) (c .if2 .taken) refl
+    steps-no-room next inRange header (λ m. m .payload) shown (a .t1) (a .piece .now) (a .lent .now) (record { reader = a .t1; answer = Refused NoRoom; used = 0 }) (sound-at (c .before)) (c .if2 .taken) refl
 
 run-in-requires : tie.Need-run-in-requires
 run-in-requires c κs = (sound-at (c .before .before), full-at (c .before .before .before .before .before .before))
@@ -77,7 +77,7 @@ returns-2 c =
     let k = c .before .before .before .before .before .before .before in
     let r = ran k in
     let a = start r .args in
-    steps-scan next inRange header (λ m. m .bytes) shown (a .t1) (a .piece .now) (a .lent .now) _ (record { reader = after r; answer = k .judge .result; used = r .run-in .result .used }) _ (sound-at (r .before .before .before)) (r .before .before .if2 .left) (r .run-in .ensures .scanned)
+    steps-scan next inRange header (λ m. m .payload) shown (a .t1) (a .piece .now) (a .lent .now) _ (record { reader = after r; answer = k .judge .result; used = r .run-in .result .used }) _ (sound-at (r .before .before .before)) (r .before .before .if2 .left) (r .run-in .ensures .scanned)
     (ap {B = Seen Reader Header} (λ t. record { state = after r; told = t; used = r .run-in .result .used }) (k .judge .ensures))
     (c .before .before .deliver .ensures ∙ judged k .1)
     (r .run-in .ensures .ranged)
@@ -85,7 +85,7 @@ returns-2 c =
 returns-3 : tie.Need-returns-3
 returns-3 c =
     let a = c .before .before .before .before .args in
-    steps-spoilt next inRange header (λ m. m .bytes) shown (a .t1) (a .piece .now) (a .lent .now) (record { reader = a .t1; answer = Refused Spoilt; used = 0 }) (sym (c .before .in-range .ensures) ∙ c .if1 .left) refl
+    steps-spoilt next inRange header (λ m. m .payload) shown (a .t1) (a .piece .now) (a .lent .now) (record { reader = a .t1; answer = Refused Spoilt; used = 0 }) (sym (c .before .in-range .ensures) ∙ c .if1 .left) refl
 
 pub step-spec : {M : Type 1} → statement M
 step-spec =

@@ -1,0 +1,73 @@
+-- Plain bytes taken into a stretch.
+-- Assumes nothing.
+use Prim.Native.Nat.{ℕ, _+_, _-_, _≤_, _<_}
+use mathlib.Core.Path.{_≡_, refl, sym, ap, _∙_}
+use mathlib.Core.Bool.{Bool, true, false, _&&_, _||_, not}
+use mathlib.Core.List.{List}
+use lib.ListN.{length, getD, set, length-set}
+use lib.Dec.{eqb}
+use borrow.Author.Count.{below-more}
+use borrow.Author.Tests.{eqb-false}
+use native.Mathlib.Omega.{arith}
+use Rattle.stream.specs.Pieces.{scanFrom}
+use Rattle.stream.proofs.LoopScans.{from-goes}
+use Rattle.comlynx.specs.Wire.{flag, escape}
+use Rattle.comlynx.specs.Machine.{bodyMax, inside, next}
+use Rattle.comlynx.specs.Inside.{Plain, AllPlain, Filled}
+use Rattle.comlynx.proofs.MachineMoves.{keeps}
+
+-- none, one, and some after some
+pub filled-none : (p : List ℕ) (i c : ℕ) (h : List ℕ) → i ≤ length p → c ≤ bodyMax → Filled p i c h i h
+filled-none p i c h hi hc =
+    let e : c ≡ c + (i - i) = omega arith in
+    record { forward = omega arith; within = hi; room = omega arith; sized = refl; goes = ap (λ (n : ℕ). scanFrom next (inside n h) p i) e }
+
+pub filled-one : (p : List ℕ) (i c : ℕ) (h : List ℕ) → i < length p → c < bodyMax → Plain (getD p i 0) → Filled p i c h (i + 1) (set h c (getD p i 0))
+filled-one p i c h hi hc q =
+    let e : c + 1 ≡ c + (i + 1 - i) = omega arith in
+    record {
+      forward = omega arith;
+      within = omega arith;
+      room = omega arith;
+      sized = length-set h c (getD p i 0);
+      goes =
+          from-goes next (inside c h) (inside (c + 1) (set h c (getD p i 0))) p i hi (keeps c h (getD p i 0) (q .0) (q .1) hc)
+          ∙ ap (λ (n : ℕ). scanFrom next (inside n (set h c (getD p i 0))) p (i + 1)) e;
+    }
+
+pub filled-more : (p : List ℕ) (i c : ℕ) (h : List ℕ) (j : ℕ) (k : List ℕ) (d m : ℕ) (l : List ℕ) → d ≡ c + (j - i) → Filled p i c h j k → Filled p j d k m l → Filled p i c h m l
+filled-more p i c h j k d m l e f g =
+    let n : d + (m - j) ≡ c + (m - i) = omega (arith, f .forward, g .forward) in
+    record {
+      forward = omega (arith, f .forward, g .forward);
+      within = g .within;
+      room = omega (arith, g .room);
+      sized = g .sized ∙ f .sized;
+      goes =
+          f .goes
+          ∙ ap (λ (x : ℕ). scanFrom next (inside x k) p j) (sym e)
+          ∙ g .goes
+          ∙ ap (λ (x : ℕ). scanFrom next (inside x l) p m) n;
+    }
+
+-- ---- the bytes seen so far are all plain
+
+three : (g x y : Bool) → (g && not x) && not y ≡ true → (g ≡ true) × (x ≡ false) × (y ≡ false)
+three true false false e = (refl, refl, refl)
+three true false true e = let z : _≡_ {A = ℕ} 0 1 = cc in absurd (omega arith)
+three true true y e = let z : _≡_ {A = ℕ} 0 1 = cc in absurd (omega arith)
+three false x y e = let z : _≡_ {A = ℕ} 0 1 = cc in absurd (omega arith)
+
+pub plain-more : (s : List ℕ) (at k : ℕ) (g : Bool) → (g ≡ true → AllPlain s at k)
+    → (g && not (eqb (getD s (at + k) 0) flag)) && not (eqb (getD s (at + k) 0) escape) ≡ true → AllPlain s at (k + 1)
+plain-more s at k g f e =
+    let t = three g (eqb (getD s (at + k) 0) flag) (eqb (getD s (at + k) 0) escape) e in
+    below-more (λ (j : ℕ). Plain (getD s (at + j) 0)) k (f (t .0)) (eqb-false _ flag (t .1), eqb-false _ escape (t .2))
+
+either : (x y : Bool) → x || y ≡ false → (x ≡ false) × (y ≡ false)
+either false false e = (refl, refl)
+either false true e = let z : _≡_ {A = ℕ} 0 1 = cc in absurd (omega arith)
+either true y e = let z : _≡_ {A = ℕ} 0 1 = cc in absurd (omega arith)
+
+pub plain-of : (b : ℕ) → eqb b flag || eqb b escape ≡ false → Plain b
+plain-of b e = let t = either (eqb b flag) (eqb b escape) e in (eqb-false b flag (t .0), eqb-false b escape (t .1))

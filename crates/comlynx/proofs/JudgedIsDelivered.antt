@@ -1,0 +1,171 @@
+-- What a judged stretch tells and delivers.
+-- Assumes nothing.
+use Prim.Native.Nat.{ℕ, _+_, _-_, _*_, _≤_, _<_}
+use mathlib.Core.Path.{_≡_, refl, sym, ap, _∙_}
+use mathlib.Core.Bool.{Bool, true, false, cond, _&&_}
+use mathlib.Core.List.{List, _++_}
+use lib.ListN.{length, take, drop, getD, length-drop}
+use lib.Seq.{getD-take, length-take-le, take-take}
+use lib.Dec.{eqb, leb}
+use borrow.Author.Tests.{eq-eqb, ne-eqb, leb-true}
+use native.Mathlib.Omega.{arith}
+use Rattle.answers.proofs.NumbersHaveCases.{refusals, damages}
+use Rattle.answers.specs.declared.Damage.the-variants.{WrongBodyLength, WrongStart, WrongSize, WrongSum}
+use Rattle.comlynx_checksum.specs.Fcs.{fcsOf, agrees, IsSentOf}
+use Rattle.comlynx_checksum.specs.declared.Sent.{Sent}
+use Rattle.comlynx_checksum.proofs.SentAgrees.{agrees-by-bytes, sent-low, sent-high}
+use Rattle.stream.proofs.ListLaws.{drop-take}
+use Rattle.stream.specs.Event.{message, damage, Told, done, gives, refuses}
+use Rattle.stream.specs.Call.{retold, delivered}
+use Rattle.comlynx.specs.Wire.{Message, messageOf}
+use Rattle.comlynx.specs.Rules.{sized, begins, judged}
+use Rattle.comlynx.specs.Machine.{closed}
+use Rattle.comlynx.specs.Reader.{told, header}
+use Rattle.comlynx.specs.Inside.{due, JudgedAs, Judges, Small, given}
+use Rattle.comlynx.specs.declared.reader.Header.{Header}
+use Rattle.comlynx.specs.declared.reader.Answer.{Answer}
+use Rattle.comlynx.specs.declared.reader.Answer.the-variants.{Done, Message as Read, Damaged, Refused}
+use Rattle.comlynx.proofs.StageRanges.{false-true}
+
+-- the header that is read off the held bytes
+abbrev pub heldHeader : ℕ → List ℕ → Header
+heldHeader len held = record { source = getD held 2 0 * 256 + getD held 3 0; destination = getD held 4 0 * 256 + getD held 5 0; kind = getD held 7 0; len = len }
+
+-- ---- what is told alike is one: by the way back
+
+back : Told Header → Answer
+back done = Done
+back (gives (message h)) = Read h
+back (gives (damage n)) = Damaged (damages .back n)
+back (refuses n) = Refused (refusals .back n)
+
+back-told : (a : Answer) → back (told a) ≡ a
+unfolding back
+back-told Done = refl
+back-told (Read h) = refl
+back-told (Damaged d) = ap Damaged (damages .case d)
+back-told (Refused r) = ap Refused (refusals .case r)
+
+pub told-alike : (a b : Answer) → told a ≡ told b → a ≡ b
+told-alike a b e = sym (back-told a) ∙ ap back e ∙ back-told b
+
+-- ---- a length in bounds
+
+pub both : (s t : Bool) → s && t ≡ true → (s ≡ true) × (t ≡ true)
+both true t e = (refl, e)
+both false t e = false-true e
+
+pub sized-bounds : (n : ℕ) → sized n ≡ true → (10 ≤ n) × (n ≤ 265)
+sized-bounds n e = let t = both (leb 10 n) (leb n 265) e in (leb-true 10 n (t .0), leb-true n 265 (t .1))
+
+-- ---- the first n held bytes as a body
+
+module _ (n : ℕ) (held : List ℕ) (full : length held ≡ 265) (fits : sized n ≡ true) where
+  least : 10 ≤ n
+  least = sized-bounds n fits .0
+
+  most : n ≤ 265
+  most = sized-bounds n fits .1
+
+  taken : length (take n held) ≡ n
+  taken = length-take-le n held (omega (arith, most))
+
+  at-place : (i : ℕ) → i < n → getD (take n held) i 0 ≡ getD held i 0
+  at-place i h = getD-take n held i 0 h
+
+  begins-taken : begins (take n held) ≡ begins held
+  begins-taken = rw (at-place 0 (omega (arith, least)), at-place 1 (omega (arith, least)))
+
+  size-taken : getD (take n held) 6 0 ≡ getD held 6 0
+  size-taken = at-place 6 (omega (arith, least))
+
+  held-bytes : take (length (take n held) - 10) (drop 8 (take n held)) ≡ take (n - 10) (drop 8 held)
+  held-bytes =
+      let e : n ≡ 8 + (n - 8) = omega (arith, least) in
+      ap (λ (k : ℕ). take (k - 10) (drop 8 (take n held))) taken
+      ∙ ap (λ (k : ℕ). take (n - 10) (drop 8 (take k held))) e
+      ∙ ap (take (n - 10)) (drop-take 8 (n - 8) held)
+      ∙ take-take (n - 10) (n - 8) (drop 8 held) (omega (arith, least))
+
+  held-length : length (take (length (take n held) - 10) (drop 8 (take n held))) ≡ n - 10
+  held-length = ap length held-bytes ∙ length-take-le (n - 10) (drop 8 held) (simp length-drop (omega (arith, least, most)))
+
+  held-header : header (messageOf (take n held)) ≡ heldHeader (n - 10) held
+  held-header =
+      rw (
+        at-place 2 (omega (arith, least)),
+        at-place 3 (omega (arith, least)),
+        at-place 4 (omega (arith, least)),
+        at-place 5 (omega (arith, least)),
+        at-place 7 (omega (arith, least)),
+        held-length,
+      )
+
+  -- the checksum agrees where the last two are those that are due
+  agrees-due : (sum : ℕ) (d : Sent) → sum ≡ fcsOf (take (n - 2) held) → IsSentOf sum d → agrees (take n held) ≡ due n (d .low) (d .high) held
+  agrees-due sum d e s =
+      let last : n - 2 + 1 ≡ n - 1 = omega (arith, least) in
+      let same : fcsOf (take (n - 2) (take n held)) ≡ sum = ap fcsOf (take-take (n - 2) n held (omega arith)) ∙ sym e in
+      agrees-by-bytes (take n held) (n - 2) (omega (arith, taken, least))
+      ∙ rw (same, ← sent-low sum d s, ← sent-high sum d s, at-place (n - 2) (omega (arith, least)), last, at-place (n - 1) (omega (arith, least)))
+
+module _ (n low high : ℕ) (held : List ℕ) (full : length held ≡ 265) where
+  pub judged-length : sized n ≡ false → Judges n low high held (Damaged WrongBodyLength)
+  unfolding judged
+  judged-length e = rw e
+
+  module _ (fits : sized n ≡ true) where
+    pub judged-start : begins held ≡ false → Judges n low high held (Damaged WrongStart)
+    unfolding judged
+    judged-start e = rw (fits, begins-taken n held full fits, e)
+
+    module _ (starts : begins held ≡ true) where
+      pub judged-size : (getD held 6 0 ≡ n - 10 → ⊥) → Judges n low high held (Damaged WrongSize)
+      unfolding judged
+      judged-size e = rw (fits, begins-taken n held full fits, starts, size-taken n held full fits, ne-eqb (getD held 6 0) (n - 10) e)
+
+      pub judged-sum : getD held 6 0 ≡ n - 10 → due n low high held ≡ false → Judges n low high held (Damaged WrongSum)
+      unfolding judged
+      judged-sum e d = rw (fits, begins-taken n held full fits, starts, size-taken n held full fits, eq-eqb (getD held 6 0) (n - 10) e, d)
+
+      pub judged-message : getD held 6 0 ≡ n - 10 → due n low high held ≡ true → Judges n low high held (Read (heldHeader (n - 10) held))
+      unfolding judged
+      judged-message e d =
+          rw (fits, begins-taken n held full fits, starts, size-taken n held full fits, eq-eqb (getD held 6 0) (n - 10) e, d)
+          (ap (λ (h : Header). gives (message h)) (sym (held-header n held full fits)))
+
+-- a stretch that closes, judged by what is due
+pub closes : (n sum : ℕ) (held : List ℕ) (d : Sent) → length held ≡ 265 → sum ≡ fcsOf (take (n - 2) held) → IsSentOf sum d
+    → closed n held ≡ judged n (due n (d .low) (d .high) held) (take n held)
+unfolding judged
+closes n sum held d full e s = go (sized n) refl
+  where
+    go : (t : Bool) → sized n ≡ t → closed n held ≡ judged n (due n (d .low) (d .high) held) (take n held)
+    go true f = ap (λ (r : Bool). judged n r (take n held)) (agrees-due n held full f sum d e s)
+    go false f = rw f
+
+-- ---- what is told of a stretch, delivered
+
+pub delivers : (n : ℕ) (right : Bool) (held lent : List ℕ) (a : Answer) → length held ≡ 265 → JudgedAs (judged n right (take n held)) a
+    → Small a × (given a held lent ≡ delivered (λ (m : Message). m .payload) (gives (judged n right (take n held))) lent)
+unfolding judged
+delivers n right held lent a full e = go (sized n) (begins (take n held)) (eqb (getD (take n held) 6 0) (n - 10)) right refl e
+  where
+    m : Message
+    m = messageOf (take n held)
+
+    go : (f s z r : Bool) → sized n ≡ f
+        → told a ≡ retold header (gives (cond f (cond s (cond z (cond r (message m) (damage 6)) (damage 5)) (damage 4)) (damage 3)))
+        → Small a × (given a held lent ≡ delivered (λ (m : Message). m .payload) (gives (cond f (cond s (cond z (cond r (message m) (damage 6)) (damage 5)) (damage 4)) (damage 3))) lent)
+    go false s z r f e = rw (told-alike a (Damaged WrongBodyLength) e) (tt, refl)
+    go true false z r f e = rw (told-alike a (Damaged WrongStart) e) (tt, refl)
+    go true true false r f e = rw (told-alike a (Damaged WrongSize) e) (tt, refl)
+    go true true true false f e = rw (told-alike a (Damaged WrongSum) e) (tt, refl)
+    go true true true true f e =
+        let count : length (m .payload) ≡ n - 10 = held-length n held full f in
+        let payload : m .payload ≡ take (n - 10) (drop 8 held) = held-bytes n held full f in
+        let is : a ≡ Read (header m) = told-alike a (Read (header m)) e in
+        rw is (
+          omega (arith, count, sized-bounds n f .1),
+          ap (λ (k : ℕ). take k (drop 8 held) ++ drop (length (m .payload)) lent) count ∙ ap (λ (d : List ℕ). d ++ drop (length (m .payload)) lent) (sym payload),
+        )

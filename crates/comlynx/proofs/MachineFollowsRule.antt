@@ -1,0 +1,251 @@
+-- The machine finds what the rule finds, from every state in which a stretch begins or is awaited.
+-- Assumes nothing.
+use Prim.Native.Nat.{ℕ, suc, min, _+_, _≤_, _<_}
+use mathlib.Core.Path.{_≡_, refl, sym, ap, ap₂, _∙_, subst}
+use mathlib.Core.Bool.{Bool, true, false, cond}
+use mathlib.Core.Option.{Option, none, some}
+use mathlib.Core.List.{List, [], _∷_, _++_, append-nil, append-assoc}
+use lib.ListN.{length, take, set, replicate, length-append, length-set, length-replicate}
+use lib.Seq.{take-all, take-append-le, take-suc-set}
+use lib.Dec.{T, eqb, ltb}
+use lib.Pow.{areBytes}
+use borrow.Author.Tests.{eqb-true, eqb-false, ne-eqb, ltb-true, ltb-false, le-leb, lt-leb}
+use native.Mathlib.Numerals.{add-one}
+use native.Mathlib.Nat.{lt-of-not-le}
+use native.Mathlib.Decide.{decLe}
+use native.Mathlib.Omega.{arith}
+use Rattle.comlynx_checksum.specs.Fcs.{agrees}
+use Rattle.stream.specs.Event.{Event, damage}
+use Rattle.stream.specs.Rule.{Settled}
+use Rattle.stream.proofs.FamilyFacts.{Follows}
+use Rattle.stream.proofs.FollowsByBytes.{Finds, finds-end, finds-goes, finds-tells, follows-by}
+use Rattle.comlynx.specs.Wire.{Message, flag, escape}
+use Rattle.comlynx.specs.Rules.{withFirst, unstuffed, sized, judged, judgedBody, judge, within, before, rule}
+use Rattle.comlynx.specs.Machine.{bodyMax, tooMany, waiting, inside, escaped, broken, fresh, on, tells, closed, next}
+use Rattle.comlynx.specs.declared.reader.Reader.{Reader}
+use Rattle.comlynx.proofs.MachineMoves.{flag-first, flag-empty, flag-closes, flag-after-escape, flag-breaks, waits, marks, keeps, overflows, pair-flag, pair-flag-over, pair-escape, pair-escape-over, spoils, stays-broken}
+use Rattle.comlynx.proofs.UnstuffingUndoes.{by-test}
+
+-- where a stretch is awaited, and where one begins
+pub record Stands (s : Reader) (as-in : List ℕ → Reader) : Type 0 where
+  pub held : List ℕ
+  pub full : length held ≡ bodyMax
+  pub is : s ≡ as-in held
+
+abbrev pub At : Bool → Reader → Type 0
+At false s = Stands s waiting
+At true s = Stands s (inside 0)
+
+abbrev Agrees : ℕ → Option (Settled (Event Message)) → Reader → List ℕ → Type 0
+Agrees = Finds next (At true)
+
+-- ---- what is held of a stretch
+
+-- `c` and `h` hold the bytes `u`, or their first 265 where they are more
+record Holds (c : ℕ) (h u : List ℕ) : Type 0 where
+  wide : length h ≡ bodyMax
+  counted : c ≡ min (length u) tooMany
+  same : take c h ≡ take bodyMax u
+
+holds-more : (c : ℕ) (h u : List ℕ) (b : ℕ) → c < bodyMax → Holds c h u → Holds (c + 1) (set h c b) (u ++ b ∷ [])
+holds-more c h u b k r =
+    let e : length (u ++ b ∷ []) ≡ length u + 1 = length-append u (b ∷ []) in
+    record {
+      wide = length-set h c b ∙ r .wide;
+      counted = omega (arith, e, r .counted);
+      same =
+          ap (λ (n : ℕ). take n (set h c b)) (add-one c)
+          ∙ take-suc-set h c b (omega (arith, r .wide))
+          ∙ ap (λ (l : List ℕ). l ++ b ∷ []) (r .same ∙ take-all bodyMax u (omega (arith, r .counted)))
+          ∙ sym (take-all bodyMax (u ++ b ∷ []) (omega (arith, e, r .counted)));
+    }
+
+holds-full : (c : ℕ) (h u : List ℕ) (b : ℕ) → bodyMax ≤ c → Holds c h u → Holds tooMany h (u ++ b ∷ [])
+holds-full c h u b k r =
+    let e : length (u ++ b ∷ []) ≡ length u + 1 = length-append u (b ∷ []) in
+    record {
+      wide = r .wide;
+      counted = omega (arith, e, r .counted);
+      same =
+          take-all tooMany h (omega (arith, r .wide))
+          ∙ sym (take-all c h (omega (arith, r .wide)))
+          ∙ r .same
+          ∙ sym (take-append-le bodyMax u (b ∷ []) (omega (arith, r .counted)));
+    }
+
+too-long : (n : ℕ) → 265 < n → sized n ≡ false
+too-long n k = rw (le-leb 10 n (omega arith), lt-leb n 265 k)
+
+-- so what is held is judged as the whole
+holds-closed : (c : ℕ) (h u : List ℕ) → Holds c h u → closed c h ≡ judged (length u) (agrees u) u
+unfolding judged
+holds-closed c h u r =
+    elim (decLe (length u) bodyMax) [
+      | yes k ↦ (
+          let e : c ≡ length u = omega (arith, r .counted) in
+          let f : take c h ≡ u = r .same ∙ take-all bodyMax u k in
+          ap₂ (λ (n : ℕ) (l : List ℕ). judged n (agrees l) l) e f)
+      | no k ↦ (
+          let lt : bodyMax < length u = lt-of-not-le k in
+          rw (too-long c (omega (arith, r .counted)), too-long (length u) (omega arith)))
+    ]
+
+-- ---- where the machine stands in a stretch
+
+data Mode : Type 0 where
+  clear half bad : Mode
+
+abbrev stateOf : Mode → ℕ → List ℕ → Reader
+stateOf clear c h = inside c h
+stateOf half c h = escaped c h
+stateOf bad c h = broken c h
+
+-- u in front
+abbrev ahead : List ℕ → Option (List ℕ) → Option (List ℕ)
+ahead u none = none
+ahead u (some v) = some (u ++ v)
+
+ahead-front : (u : List ℕ) (b : ℕ) (o : Option (List ℕ)) → ahead u (withFirst b o) ≡ ahead (u ++ b ∷ []) o
+ahead-front u b none = refl
+ahead-front u b (some v) = ap some (sym (append-assoc u (b ∷ []) v))
+
+-- what u, already unstuffed, and the bytes s after it stand for
+abbrev whole : Mode → List ℕ → List ℕ → Option (List ℕ)
+whole clear u s = ahead u (unstuffed false s)
+whole half u s = ahead u (unstuffed true s)
+whole bad u s = none
+
+-- whether nothing has come
+abbrev empty : Mode → List ℕ → Bool
+empty clear u = eqb (length u) 0
+empty half u = false
+empty bad u = false
+
+-- of a stretch `came` has come, which left the machine so
+record Track (m : Mode) (c : ℕ) (h u came : List ℕ) : Type 0 where
+  holds : Holds c h u
+  means : (rest : List ℕ) → unstuffed false (came ++ rest) ≡ whole m u rest
+  begun : eqb (length came) 0 ≡ empty m u
+
+snoc-some : (l : List ℕ) (b : ℕ) → eqb (length (l ++ b ∷ [])) 0 ≡ false
+snoc-some l b = ne-eqb (length (l ++ b ∷ [])) 0 (λ e. omega (arith, length-append l (b ∷ [])))
+
+means-on : (m n : Mode) (u v came : List ℕ) (b : ℕ) → ((rest : List ℕ) → unstuffed false (came ++ rest) ≡ whole m u rest)
+    → ((rest : List ℕ) → whole m u (b ∷ rest) ≡ whole n v rest) → (rest : List ℕ) → unstuffed false ((came ++ b ∷ []) ++ rest) ≡ whole n v rest
+means-on m n u v came b f g rest = ap (unstuffed false) (append-assoc came (b ∷ []) rest) ∙ f (b ∷ rest) ∙ g rest
+
+begins-so : (h : List ℕ) → length h ≡ bodyMax → Track clear 0 h [] []
+begins-so h w = record { holds = record { wide = w; counted = refl; same = refl }; means = λ rest. sym (ahead-nil (unstuffed false rest)); begun = refl }
+  where
+    ahead-nil : (o : Option (List ℕ)) → ahead [] o ≡ o
+    ahead-nil none = refl
+    ahead-nil (some v) = refl
+
+-- the claim for the bytes bs
+abbrev Claim : List ℕ → Type 0
+Claim bs = (m : Mode) (c : ℕ) (h u came : List ℕ) → Track m c h u came → (at : ℕ) → Agrees at (within at came bs) (stateOf m c h) bs
+
+-- ---- a flag
+
+judge-so : (m : Mode) (c : ℕ) (h u came : List ℕ) → Track m c h u came → (o : Option (List ℕ)) → whole m u [] ≡ o → judge came ≡ judgedBody o
+unfolding judge
+judge-so m c h u came t o e = ap (λ (l : List ℕ). judgedBody (unstuffed false l)) (sym (append-nil came)) ∙ ap judgedBody (t .means [] ∙ e)
+
+abbrev closing : ℕ → List ℕ → List ℕ → Option (Settled (Event Message))
+closing at came bs = cond (eqb (length came) 0) (within (at + 1) [] bs) (some (record { event = judge came; used = at + 1 }))
+
+ends-with : (at : ℕ) (came bs : List ℕ) (s : Reader) (h : List ℕ) (x : Event Message) → length h ≡ bodyMax → eqb (length came) 0 ≡ false → judge came ≡ x → next s flag ≡ tells x h
+    → Agrees at (closing at came bs) s (flag ∷ bs)
+ends-with at came bs s h x w e j n = rw (e, j) (finds-tells next (At true) n (record { held = h; full = w; is = refl }))
+
+at-flag : (bs : List ℕ) → Claim bs → (m : Mode) (c : ℕ) (h u came : List ℕ) → Track m c h u came → (at : ℕ) → Agrees at (closing at came bs) (stateOf m c h) (flag ∷ bs)
+at-flag bs ih clear c h [] came t at =
+    rw (t .begun, t .holds .counted) (finds-goes next (At true) (flag-empty h) (ih clear 0 h [] [] (begins-so h (t .holds .wide)) (at + 1)))
+at-flag bs ih clear c h (x ∷ u) came t at =
+    ends-with at came bs (inside c h) h (closed c h) (t .holds .wide) (t .begun ∙ ne-eqb (suc (length u)) 0 (λ e. omega arith))
+    (judge-so clear c h (x ∷ u) came t (some (x ∷ u)) (ap some (append-nil (x ∷ u))) ∙ sym (holds-closed c h (x ∷ u) (t .holds)))
+    (flag-closes c h (λ e. omega (arith, t .holds .counted)))
+at-flag bs ih half c h u came t at =
+    ends-with at came bs (escaped c h) h (damage 2) (t .holds .wide) (t .begun) (judge-so half c h u came t none refl) (flag-after-escape c h)
+at-flag bs ih bad c h u came t at =
+    ends-with at came bs (broken c h) h (damage 2) (t .holds .wide) (t .begun) (judge-so bad c h u came t none refl) (flag-breaks c h)
+
+-- ---- another byte
+
+-- one more byte v of the body
+one-more : (bs : List ℕ) → Claim bs → (m : Mode) (c : ℕ) (h u came : List ℕ) → Track m c h u came → (at b v : ℕ)
+    → (c < bodyMax → next (stateOf m c h) b ≡ on (inside (c + 1) (set h c v))) → (bodyMax ≤ c → next (stateOf m c h) b ≡ on (inside tooMany h))
+    → ((rest : List ℕ) → whole m u (b ∷ rest) ≡ ahead u (withFirst v (unstuffed false rest)))
+    → Agrees at (within (at + 1) (came ++ b ∷ []) bs) (stateOf m c h) (b ∷ bs)
+one-more bs ih m c h u came t at b v f g w = go (ltb c bodyMax) refl
+  where
+    track : (c′ : ℕ) (h′ : List ℕ) → Holds c′ h′ (u ++ v ∷ []) → Track clear c′ h′ (u ++ v ∷ []) (came ++ b ∷ [])
+    track c′ h′ r =
+        record {
+          holds = r;
+          means = means-on m clear u (u ++ v ∷ []) came b (t .means) (λ rest. w rest ∙ ahead-front u v (unstuffed false rest));
+          begun = snoc-some came b ∙ sym (snoc-some u v);
+        }
+
+    go : (q : Bool) → ltb c bodyMax ≡ q → Agrees at (within (at + 1) (came ++ b ∷ []) bs) (stateOf m c h) (b ∷ bs)
+    go true e =
+        let lt = ltb-true c bodyMax e in
+        finds-goes next (At true) (f lt) (ih clear (c + 1) (set h c v) (u ++ v ∷ []) (came ++ b ∷ []) (track (c + 1) (set h c v) (holds-more c h u v lt (t .holds))) (at + 1))
+    go false e =
+        let le = ltb-false c bodyMax e in
+        finds-goes next (At true) (g le) (ih clear tooMany h (u ++ v ∷ []) (came ++ b ∷ []) (track tooMany h (holds-full c h u v le (t .holds))) (at + 1))
+
+-- the same bytes held, in another mode
+turns : (bs : List ℕ) → Claim bs → (m n : Mode) (c : ℕ) (h u came : List ℕ) → Track m c h u came → (at b : ℕ) → next (stateOf m c h) b ≡ on (stateOf n c h)
+    → empty n u ≡ false → ((rest : List ℕ) → whole m u (b ∷ rest) ≡ whole n u rest) → Agrees at (within (at + 1) (came ++ b ∷ []) bs) (stateOf m c h) (b ∷ bs)
+turns bs ih m n c h u came t at b e f w =
+    finds-goes next (At true) e
+    (ih n c h u (came ++ b ∷ []) (record { holds = t .holds; means = means-on m n u u came b (t .means) w; begun = snoc-some came b ∙ sym f }) (at + 1))
+
+on-byte : (bs : List ℕ) → Claim bs → (m : Mode) (c : ℕ) (h u came : List ℕ) → Track m c h u came → (at b : ℕ) → (b ≡ flag → ⊥)
+    → Agrees at (within (at + 1) (came ++ b ∷ []) bs) (stateOf m c h) (b ∷ bs)
+on-byte bs ih clear c h u came t at b n = go (eqb b escape) refl
+  where
+    go : (q : Bool) → eqb b escape ≡ q → Agrees at (within (at + 1) (came ++ b ∷ []) bs) (inside c h) (b ∷ bs)
+    go true e =
+        let is : b ≡ escape = eqb-true b escape e in
+        rw is (turns bs ih clear half c h u came t at escape (marks c h) refl (λ rest. refl))
+    go false e =
+        let no = eqb-false b escape e in
+        one-more bs ih clear c h u came t at b b (keeps c h b n no) (overflows c h b n no) (λ rest. rw e)
+on-byte bs ih half c h u came t at b n = go (eqb b 0x5E) (eqb b 0x5D) refl refl
+  where
+    go : (q r : Bool) → eqb b 0x5E ≡ q → eqb b 0x5D ≡ r → Agrees at (within (at + 1) (came ++ b ∷ []) bs) (escaped c h) (b ∷ bs)
+    go true r e f =
+        let is : b ≡ 0x5E = eqb-true b 0x5E e in
+        rw is (one-more bs ih half c h u came t at 0x5E flag (pair-flag c h) (pair-flag-over c h) (λ rest. refl))
+    go false true e f =
+        let is : b ≡ 0x5D = eqb-true b 0x5D f in
+        rw is (one-more bs ih half c h u came t at 0x5D escape (pair-escape c h) (pair-escape-over c h) (λ rest. refl))
+    go false false e f = turns bs ih half bad c h u came t at b (spoils c h b n (eqb-false b 0x5E e) (eqb-false b 0x5D f)) refl (λ rest. rw (e, f))
+on-byte bs ih bad c h u came t at b n = turns bs ih bad bad c h u came t at b (stays-broken c h b n) refl (λ rest. refl)
+
+-- ---- a stretch, and what stands before the first flag
+
+claim : (bs : List ℕ) → Claim bs
+unfolding within
+claim [] m c h u came t at = finds-end next (At true) at (stateOf m c h)
+claim (b ∷ bs) m c h u came t at =
+    by-test (λ o. Agrees at o (stateOf m c h) (b ∷ bs)) (eqb b flag)
+    (λ e. let is : b ≡ flag = eqb-true b flag e in rw is (at-flag bs (claim bs) m c h u came t at))
+    (λ e. on-byte bs (claim bs) m c h u came t at b (eqb-false b flag e))
+
+waited : (bs h : List ℕ) → length h ≡ bodyMax → (at : ℕ) → Agrees at (before at bs) (waiting h) bs
+unfolding before
+waited [] h w at = finds-end next (At true) at (waiting h)
+waited (b ∷ bs) h w at =
+    by-test (λ o. Agrees at o (waiting h) (b ∷ bs)) (eqb b flag)
+    (λ e. let is : b ≡ flag = eqb-true b flag e in rw is (finds-goes next (At true) (flag-first h) (claim bs clear 0 h [] [] (begins-so h w) (at + 1))))
+    (λ e. finds-goes next (At true) (waits h b (eqb-false b flag e)) (waited bs h w (at + 1)))
+
+pub at-fresh : At false fresh
+at-fresh = record { held = replicate bodyMax 0; full = length-replicate {A = ℕ} bodyMax 0; is = refl }
+
+pub follows : (known : Bool) (s : Reader) → At known s → (bs : List ℕ) → T (areBytes bs) → Follows rule next At known true s bs
+follows false s a bs g = follows-by (subst (λ (x : Reader). Agrees 0 (rule false bs) x bs) (sym (a .is)) (waited bs (a .held) (a .full) 0))
+follows true s a bs g = follows-by (subst (λ (x : Reader). Agrees 0 (rule true bs) x bs) (sym (a .is)) (claim bs clear 0 (a .held) [] [] (begins-so (a .held) (a .full)) 0))

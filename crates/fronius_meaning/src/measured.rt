@@ -1,0 +1,106 @@
+// A measured value, three data bytes: high, low, exponent. Here in whole thousandths.
+use answers::Refusal;
+ghost use mathlib.Core.Path.{_≡_};
+ghost use mathlib.Core.Bool.{false};
+ghost use Prim.Native.Nat.{_+_, _*_, _^_, _<_};
+ghost use lib.IntN.{pos, _*ℤ_};
+ghost use lib.Signed.{mag};
+ghost use Rattle.fronius_meaning.specs.Measured.{IsThousandths, exponentOf, tensOf, tooGreat, tooSmall, valueOf};
+
+pub enum Measured {
+    Thousandths(i64),
+    Refused(Refusal),
+}
+
+// The data of a message as a measured value. The caller says whether the value is signed; the exponent always is.
+pub fn thousandths(payload: &[u8], signed: bool) -> Measured
+    ensures { λ r. ⌜ IsThousandths (now (payload .entry)) signed r ⌝ }
+{
+    if payload.len() != 3 {
+        return Measured::Refused(Refusal::NotForThisCall);
+    }
+    let exponent = payload[2];
+    if too_great(exponent) {
+        return Measured::Refused(Refusal::ExponentTooHigh);
+    }
+    if too_small(exponent) {
+        return Measured::Refused(Refusal::WrongAddressOrExponentTooLow);
+    }
+    let v = value(word(payload[0], payload[1]), signed);
+    Measured::Thousandths(times_ten_to(v, tens(exponent)))
+}
+
+// The two-byte value, before anyone says whether it is signed.
+pub(crate) fn word(high: u8, low: u8) -> u16
+    ensures { λ r. ⌜ r ≡ high * 256 + low ⌝ }
+{
+    (high as u16) * 256 + (low as u16)
+}
+
+// An exponent byte is signed, so that from 128 on it stands for a number below 0: FD is -3 and not 253.
+pub(crate) fn too_great(exponent: u8) -> bool
+    ensures { λ r. ⌜ r ≡ tooGreat (exponentOf exponent) ⌝ }
+{
+    (exponent < 128) & (10 < exponent)
+}
+
+pub(crate) fn too_small(exponent: u8) -> bool
+    ensures { λ r. ⌜ r ≡ tooSmall (exponentOf exponent) ⌝ }
+{
+    (128 <= exponent) & (exponent < 253)
+}
+
+// How many tens make thousandths of a value: three more than the exponent, which may be below 0, says.
+fn tens(exponent: u8) -> usize
+    requires { ⌜ (tooGreat (exponentOf exponent) ≡ false) × (tooSmall (exponentOf exponent) ≡ false) ⌝ }
+    ensures { λ r. ⌜ (r ≡ tensOf (exponentOf exponent)) × (r < 14) ⌝ }
+{
+    if exponent < 128 {
+        return (exponent as usize) + 3;
+    }
+    (exponent as usize) - 253
+}
+
+fn value(word: u16, signed: bool) -> i64
+    ensures { λ r. ⌜ (r ≡ valueOf signed word) × (mag r < 65536) ⌝ }
+{
+    let v = word as i64;
+    if signed {
+        if word >= 32768 {
+            return v - 65536;
+        }
+    }
+    v
+}
+
+// Always exact: 65,536 times ten to 13 is below 2 to 63.
+fn times_ten_to(v: i64, k: usize) -> i64
+    requires { ⌜ (mag v < 65536) × (k < 14) ⌝ }
+    ensures { λ r. ⌜ r ≡ v *ℤ pos (10 ^ k) ⌝ }
+{
+    v * (ten_to(k) as i64)
+}
+
+const TENS: [u64; 14] = [
+    1,
+    10,
+    100,
+    1_000,
+    10_000,
+    100_000,
+    1_000_000,
+    10_000_000,
+    100_000_000,
+    1_000_000_000,
+    10_000_000_000,
+    100_000_000_000,
+    1_000_000_000_000,
+    10_000_000_000_000,
+];
+
+pub(crate) fn ten_to(k: usize) -> u64
+    requires { ⌜ k < 14 ⌝ }
+    ensures { λ r. ⌜ r ≡ 10 ^ k ⌝ }
+{
+    TENS[k]
+}

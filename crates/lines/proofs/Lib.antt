@@ -1,4 +1,0 @@
-pub mod Texts
-pub mod Puts
-pub mod Laws
-pub mod One

@@ -1,0 +1,4 @@
+pub mod FieldLengths
+pub mod PutsJoin
+pub mod LineLengths
+pub mod One

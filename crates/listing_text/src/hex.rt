@@ -1,0 +1,120 @@
+// A list of bytes as a field of a line.
+ghost use mathlib.Core.Path.{_≡_};
+ghost use Prim.Native.Nat.{_+_, _*_, _/_, _%_, _≤_, _<_};
+ghost use mathlib.Core.List.{[], _∷_, _++_};
+ghost use lib.ListN.{length, drop};
+ghost use Rattle.listing_text.specs.Lines.{hexDigit, hex, field, fieldMax};
+ghost use Rattle.listing_text.specs.Inside.{widthOf, widthMax, hexDigits, Put};
+
+// How many bytes the field of so many takes.
+pub(crate) fn width(n: usize) -> usize
+    requires { ⌜ n ≤ fieldMax ⌝ }
+    ensures { λ r. ⌜ r ≡ widthOf n ⌝ }
+    ensures { λ r. ⌜ r ≤ widthMax ⌝ }
+{
+    if n == 0 { 1 } else { 2 * n }
+}
+
+// A hex digit, worked out: so a long list is done many bytes at a time.
+fn digit(n: u8) -> u8
+    requires { ⌜ n < 16 ⌝ }
+    ensures { λ r. ⌜ r ≡ hexDigit n ⌝ }
+{
+    if n < 10 { 48 + n } else { 55 + n }
+}
+
+// The two digits of a byte.
+fn high(b: u8) -> u8
+    ensures { λ r. ⌜ r ≡ hexDigit (b / 16) ⌝ }
+{
+    digit(b / 16)
+}
+
+fn low(b: u8) -> u8
+    ensures { λ r. ⌜ r ≡ hexDigit (b % 16) ⌝ }
+{
+    digit(b % 16)
+}
+
+// Two digits a byte, from index `at` on; the index after the last.
+fn put_hex(bytes: &[u8], lent: &mut [u8], at: usize) -> usize
+    requires { ⌜ at + 2 * length (now bytes) ≤ length (now lent) ⌝ }
+    ensures { λ r. ⌜ Put (now (lent .entry)) at (hex (now (bytes .entry))) r (now (lent .exit)) ⌝ }
+{
+    let mut i = 0;
+    let mut p = at;
+    while i < bytes.len() {
+        let b = bytes[i];
+        lent[p] = high(b);
+        lent[p + 1] = low(b);
+        p += 2;
+        i += 1;
+    }
+    p
+}
+
+// The digits in order, for what is too short for that.
+const DIGITS: [u8; 16] = *b"0123456789ABCDEF";
+
+pub(crate) fn digits() -> [u8; 16]
+    ensures { λ r. ⌜ r ≡ hexDigits ⌝ }
+{
+    DIGITS
+}
+
+fn high_of(t: &[u8; 16], b: u8) -> u8
+    requires { ⌜ now t ≡ hexDigits ⌝ }
+    ensures { λ r. ⌜ r ≡ hexDigit (b / 16) ⌝ }
+{
+    t[(b / 16) as usize]
+}
+
+fn low_of(t: &[u8; 16], b: u8) -> u8
+    requires { ⌜ now t ≡ hexDigits ⌝ }
+    ensures { λ r. ⌜ r ≡ hexDigit (b % 16) ⌝ }
+{
+    t[(b % 16) as usize]
+}
+
+// The bytes from index `from` on, by the table of digits.
+fn put_rest(bytes: &[u8], from: usize, t: &[u8; 16], lent: &mut [u8], at: usize) -> usize
+    requires { ⌜ (now t ≡ hexDigits) × (from ≤ length (now bytes)) × (at + 2 * length (now bytes) ≤ length (now lent) + 2 * from) ⌝ }
+    ensures { λ r. ⌜ Put (now (lent .entry)) at (hex (drop from (now (bytes .entry)))) r (now (lent .exit)) ⌝ }
+{
+    let mut i = from;
+    let mut p = at;
+    while i < bytes.len() {
+        let b = bytes[i];
+        lent[p] = high_of(t, b);
+        lent[p + 1] = low_of(t, b);
+        p += 2;
+        i += 1;
+    }
+    p
+}
+
+// Eight bytes at a time, and what is left of the list one by one.
+fn put_all(bytes: &[u8], t: &[u8; 16], lent: &mut [u8], at: usize) -> usize
+    requires { ⌜ (now t ≡ hexDigits) × (at + 2 * length (now bytes) ≤ length (now lent)) ⌝ }
+    ensures { λ r. ⌜ Put (now (lent .entry)) at (hex (now (bytes .entry))) r (now (lent .exit)) ⌝ }
+{
+    let n = bytes.len() / 8 * 8;
+    let p = put_hex(&bytes[..n], lent, at);
+    put_rest(bytes, n, t, lent, p)
+}
+
+// The field, and the byte that ends it.
+pub(crate) fn put_field(bytes: &[u8], after: u8, t: &[u8; 16], lent: &mut [u8], at: usize) -> usize
+    requires { ⌜ (now t ≡ hexDigits) × (at + widthOf (length (now bytes)) < length (now lent)) ⌝ }
+    ensures { λ r. ⌜ Put (now (lent .entry)) at (field (now (bytes .entry)) ++ (after ∷ [])) r (now (lent .exit)) ⌝ }
+    ensures { λ r. ⌜ r ≡ at + widthOf (length (now (bytes .entry))) + 1 ⌝ }
+{
+    if bytes.len() == 0 {
+        lent[at] = b'-';
+        lent[at + 1] = after;
+        return at + 2;
+    }
+    let p = put_all(bytes, t, lent, at);
+    lent[p] = after;
+    p + 1
+}

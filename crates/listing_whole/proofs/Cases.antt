@@ -1,0 +1,19 @@
+-- Document 01's own listings, by computation.
+-- Assumes nothing.
+use mathlib.Core.Path.{refl}
+use Rattle.comlynx_checksum.specs.Fcs.{folded, bitStep, bitSteps, entry, fcsNext, fcsFrom, fcsOf, sentAfter, sent, same, agrees}
+use Rattle.comlynx.specs.Wire as ComLynxWire
+use Rattle.comlynx.specs.Rules as ComLynxRules
+use Rattle.uplink.specs.Packet as Packet
+use Rattle.ports.specs.Ports.{seatAt}
+use Rattle.listing_text.specs.Lines.{hexDigit, decimal}
+use Rattle.listing_whole.specs.Listing.{byPacket, byEnd, listingOf}
+use Rattle.listing_whole.specs.Cases.{L1, Nothing}
+
+pub l1 : L1
+unfolding listingOf byPacket byEnd Packet.versionOf Packet.known Packet.counted Packet.marked Packet.carried Packet.packetAt seatAt hexDigit decimal ComLynxWire.body ComLynxRules.judged ComLynxRules.judge ComLynxRules.within ComLynxRules.before folded bitStep bitSteps entry fcsNext fcsFrom fcsOf sentAfter sent same agrees
+l1 = refl
+
+pub nothing : Nothing
+unfolding listingOf byPacket byEnd decimal
+nothing = refl

@@ -1,0 +1,10 @@
+pub mod MachineFindsRule
+pub mod FirstPacket
+pub mod EntriesByPacket
+pub mod CallOutcome
+pub mod PacketBringsRule
+pub mod CallsMakeListing
+pub mod EntriesByPort
+pub mod StoredDayIsListed
+pub mod Demands
+pub mod Cases

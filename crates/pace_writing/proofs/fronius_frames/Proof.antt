@@ -1,0 +1,65 @@
+-- `fronius_frames`: so many calls, and no more.
+-- Assumes nothing.
+use Prim.Native.Nat.{_-_, _≤_}
+use mathlib.Core.Path.{_≡_}
+use lib.ListN.{length}
+use borrow.Author.Needs.{needs}
+use Rattle.pace_writing.proofs.fronius_frames.Statement.{statement}
+use Rattle.pace_writing.proofs.fronius_frames.Tie as tie
+
+abbrev Inv-loop : tie.InvT-loop
+Inv-loop times look payload lent₀ sum₀ n₀ lent sum n = (n ≤ times) × (length lent ≡ length lent₀)
+
+abbrev μ-loop : tie.MeasureT-loop
+μ-loop times look payload lent₀ sum₀ n₀ lent sum n = times - n
+
+loop-holds : tie.Need-loop-holds Inv-loop μ-loop
+loop-holds c = search needs
+
+cast-high : tie.Need-cast-high Inv-loop μ-loop
+cast-high c = search needs
+
+cast-low : tie.Need-cast-low Inv-loop μ-loop
+cast-low c = search needs
+
+write-requires : tie.Need-write-requires Inv-loop μ-loop
+write-requires c κs = search needs
+
+told-requires : tie.Need-told-requires Inv-loop μ-loop
+told-requires c κs = search needs
+
+wrapping-add-usize-requires : tie.Need-wrapping-add-usize-requires Inv-loop μ-loop
+wrapping-add-usize-requires c κs = search needs
+
+add-n : tie.Need-add-n Inv-loop μ-loop
+add-n c = search needs
+
+loop-less : tie.Need-loop-less Inv-loop μ-loop
+loop-less c = search needs
+
+loop-again : tie.Need-loop-again Inv-loop μ-loop
+loop-again c = search needs
+
+same-length : tie.Need-same-length Inv-loop μ-loop
+same-length c = search needs
+
+returns : tie.Need-returns Inv-loop μ-loop
+returns c = search needs
+
+pub fronius-frames-spec : {M : Type 1} → statement M
+fronius-frames-spec =
+    tie.close
+    (tie.spec
+    Inv-loop
+    μ-loop
+    loop-holds
+    cast-high
+    cast-low
+    write-requires
+    told-requires
+    wrapping-add-usize-requires
+    add-n
+    loop-less
+    loop-again
+    same-length
+    returns)

@@ -1,0 +1,141 @@
+// Paces the writers and the checksum for the bench. The first byte of standard input names a family, or the checksum; the next two say how often, the
+// next two how much room is lent, high byte first; the next which byte of it is looked at after each call; the rest is the data. Prints the sum of
+// what the calls told and the bytes looked at, and writes the lent buffer.
+use answers::Written;
+use libc::STDIN_FILENO;
+use libc::STDOUT_FILENO;
+ghost use Prim.Native.Nat.{_≤_};
+
+// Room for every frame.
+const LENT: usize = 600;
+
+// What is called, by the first byte.
+const COMLYNX: u8 = 1;
+
+const EVERSOLAR: u8 = 2;
+
+const FRONIUS: u8 = 3;
+
+const CHECKSUM: u8 = 4;
+
+fn wide(b: u8) -> usize {
+    b as usize
+}
+
+// The byte looked at. Nobody knows before which it is, so that no call can be left out whose bytes the next call writes over.
+fn seen(lent: &[u8], look: usize) -> usize {
+    if look < lent.len() {
+        return wide(lent[look]);
+    }
+    0
+}
+
+// What a call told as one number: the length and the byte looked at, or its answer number from 1,000 on.
+fn told(w: Written, lent: &[u8], look: usize) -> usize {
+    match w {
+        Written::Done(length) => std::num::wrapping_add_usize(length, seen(lent, look)),
+        Written::Refused(why) => 1000 + why.number() as usize,
+    }
+}
+
+// One loop a family. A number of the message counts up, so that no two calls write the same.
+fn comlynx_frames(times: u16, look: usize, bytes: &[u8], lent: &mut [u8]) -> usize {
+    let mut sum: usize = 0;
+    let mut n: u16 = 0;
+    while n < times {
+        let w = comlynx::write(n, 0x11ff, 0x15, bytes, lent);
+        sum = std::num::wrapping_add_usize(sum, told(w, &*lent, look));
+        n += 1;
+    }
+    sum
+}
+
+fn eversolar_frames(times: u16, look: usize, bytes: &[u8], lent: &mut [u8]) -> usize {
+    let mut sum: usize = 0;
+    let mut n: u16 = 0;
+    while n < times {
+        let high = (n / 256) as u8;
+        let low = (n % 256) as u8;
+        let w = eversolar::write(1, 0, high, low, 0x11, 0x02, bytes, lent);
+        sum = std::num::wrapping_add_usize(sum, told(w, &*lent, look));
+        n += 1;
+    }
+    sum
+}
+
+fn fronius_frames(times: u16, look: usize, bytes: &[u8], lent: &mut [u8]) -> usize {
+    let mut sum: usize = 0;
+    let mut n: u16 = 0;
+    while n < times {
+        let high = (n / 256) as u8;
+        let low = (n % 256) as u8;
+        let w = fronius::write(1, high, low, bytes, lent);
+        sum = std::num::wrapping_add_usize(sum, told(w, &*lent, look));
+        n += 1;
+    }
+    sum
+}
+
+// Each checksum goes on from the one before, so that none can be left out.
+fn checksums(times: u16, bytes: &[u8]) -> u16 {
+    let mut state: u16 = 0xffff;
+    let mut n: u16 = 0;
+    while n < times {
+        state = comlynx_checksum::more(state, bytes);
+        n += 1;
+    }
+    state
+}
+
+// What is called is chosen once, outside the loop.
+fn sum_of(what: u8, times: u16, look: usize, bytes: &[u8], lent: &mut [u8]) -> usize {
+    if what == COMLYNX {
+        return comlynx_frames(times, look, bytes, lent);
+    }
+    if what == EVERSOLAR {
+        return eversolar_frames(times, look, bytes, lent);
+    }
+    if what == FRONIUS {
+        return fronius_frames(times, look, bytes, lent);
+    }
+    if what == CHECKSUM {
+        return checksums(times, bytes) as usize;
+    }
+    0
+}
+
+fn word(high: u8, low: u8) -> u16 {
+    high as u16 * 256 + low as u16
+}
+
+fn room_of(n: u16) -> usize
+    ensures { λ r. ⌜ r ≤ 600 ⌝ }
+{
+    let room = n as usize;
+    if room < LENT { room } else { LENT }
+}
+
+fn show(what: u8, times: u16, look: usize, bytes: &[u8], lent: &mut [u8]) {
+    let sum = sum_of(what, times, look, bytes, lent);
+    io::print_decimal(STDOUT_FILENO, sum as u64);
+    io::write_all(STDOUT_FILENO, b"\n");
+    io::write_all(STDOUT_FILENO, &*lent);
+}
+
+// Lends so much room, and no more.
+fn with_room(room: usize, what: u8, times: u16, look: usize, bytes: &[u8])
+    requires { ⌜ room ≤ 600 ⌝ }
+{
+    let mut lent = [0u8; LENT];
+    show(what, times, look, bytes, &mut lent[..room]);
+}
+
+fn main() {
+    let mut input = io::large_buffer();
+    let mut first = [0u8; 6];
+    io::read_full(STDIN_FILENO, &mut first);
+    let n = io::read_full(STDIN_FILENO, &mut input);
+    let times = word(first[1], first[2]);
+    let room = room_of(word(first[3], first[4]));
+    with_room(room, first[0], times, wide(first[5]), &input[..n]);
+}

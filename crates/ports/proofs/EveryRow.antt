@@ -1,0 +1,183 @@
+-- THE ROWS OF THE TABLE: what is shown of each line, once, and of all of them together. Everything else goes by these, for every line alike.
+-- Assumes nothing.
+use Prim.Native.Nat.{ℕ, zero, suc, _≤_}
+use mathlib.Core.Path.{_≡_, refl, ap, _∙_}
+use mathlib.Core.Bool.{true, cond}
+use mathlib.Core.Option.{some}
+use mathlib.Core.List.{List}
+use lib.Dec.{eqb}
+use native.Mathlib.Omega.{arith}
+use Rattle.answers.proofs.NumbersHaveCases.{damages}
+use Rattle.stream.specs.Event.{refuses}
+use Rattle.stream.specs.Call.{retold}
+use Rattle.stream.specs.Family.{Family}
+use Rattle.stream.proofs.FamilyFacts.{Facts}
+use Rattle.comlynx.specs.Machine as ComlynxMachine
+use Rattle.comlynx.specs.Reader as ComlynxReader
+use Rattle.comlynx.specs.declared.reader.Reader as Comlynx
+use Rattle.comlynx.specs.declared.reader.Answer as ComlynxAnswer
+use Rattle.comlynx.specs.declared.reader.Answer.the-variants as OfComlynx
+use Rattle.comlynx.proofs.FamilyFacts as ComlynxFacts
+use Rattle.comlynx.proofs.One as ComlynxOne
+use Rattle.eversolar.specs.Machine as EversolarMachine
+use Rattle.eversolar.specs.Reader as EversolarReader
+use Rattle.eversolar.specs.declared.reader.Reader as Eversolar
+use Rattle.eversolar.specs.declared.reader.Answer as EversolarAnswer
+use Rattle.eversolar.specs.declared.reader.Answer.the-variants as OfEversolar
+use Rattle.eversolar.proofs.FamilyFacts as EversolarFacts
+use Rattle.eversolar.proofs.One as EversolarOne
+use Rattle.fronius.specs.Machine as FroniusMachine
+use Rattle.fronius.specs.Reader as FroniusReader
+use Rattle.fronius.specs.declared.reader.Reader as Fronius
+use Rattle.fronius.specs.declared.reader.Answer as FroniusAnswer
+use Rattle.fronius.specs.declared.reader.Answer.the-variants as OfFronius
+use Rattle.fronius.proofs.FamilyFacts as FroniusFacts
+use Rattle.fronius.proofs.One as FroniusOne
+use Rattle.ports.specs.Ports.{Seat, comlynxSeat, eversolarSeat, froniusSeat, comlynxAnswer, eversolarAnswer, froniusAnswer, number, seats, portMost, sumOver, rowOf, seatAt}
+use Rattle.ports.specs.declared.Ports.{Ports}
+
+-- ---- every line
+
+-- what holds of each line holds of every line
+pub each-seat : (P : Seat → Type 0) → P comlynxSeat → P eversolarSeat → P froniusSeat → (seat : Seat) → P seat
+each-seat P a b c comlynxSeat = a
+each-seat P a b c eversolarSeat = b
+each-seat P a b c froniusSeat = c
+
+-- ---- what is shown of a line
+
+pub record RowFacts (seat : Seat) : Type 1 where
+  -- its port has it, is one of the ports, and it is among all lines once
+  pub own-seat : seatAt (rowOf seat .port) ≡ some seat
+  pub span : (1 ≤ rowOf seat .port) × (rowOf seat .port ≤ portMost)
+  pub once : sumOver seats (λ other. cond (eqb (rowOf seat .port) (rowOf other .port)) 1 0) ≡ 1
+  -- a reader put there is there, the one there may be put there, the last one put there stays, and the others stay
+  pub got : (ports : Ports) (s : rowOf seat .family .State) → rowOf seat .get (rowOf seat .put ports s) ≡ s
+  pub puts-own : (ports : Ports) → rowOf seat .put ports (rowOf seat .get ports) ≡ ports
+  pub puts-again : (ports : Ports) (s t : rowOf seat .family .State) → rowOf seat .put (rowOf seat .put ports s) t ≡ rowOf seat .put ports t
+  pub others : (other : Seat) (ports : Ports) (s : rowOf seat .family .State) → (seat ≡ other → ⊥) → rowOf other .get (rowOf seat .put ports s) ≡ rowOf other .get ports
+  -- the family's facts speak of the machine of its row, and its promise fixes its result
+  pub facts : Facts (rowOf seat .family)
+  pub machine : facts .next ≡ rowOf seat .next
+  pub fresh-in-range : rowOf seat .inRange (rowOf seat .family .fresh) ≡ true
+  pub one : (s : rowOf seat .family .State) (piece lent a b : List ℕ) (u v : rowOf seat .family .Result)
+      → rowOf seat .family .Steps s piece lent u a → rowOf seat .family .Steps s piece lent v b → (u ≡ v) × (a ≡ b)
+  -- what its result holds is what a host sees
+  pub reader : (r : rowOf seat .family .Result) (later : List ℕ) → rowOf seat .family .seen r later .state ≡ rowOf seat .reader r
+  pub used : (r : rowOf seat .family .Result) (later : List ℕ) → rowOf seat .family .seen r later .used ≡ rowOf seat .used r
+  pub refusal : (r : rowOf seat .family .Result) (later : List ℕ) → 8 ≤ number (rowOf seat .answer r)
+      → rowOf seat .family .seen r later .told ≡ refuses (number (rowOf seat .answer r))
+
+-- ---- ComLynx
+
+comlynx-refusal : (a : ComlynxAnswer.Answer) (later : List ℕ) → 8 ≤ number (comlynxAnswer a)
+    → retold (λ h. ComlynxReader.join h later) (ComlynxReader.told a) ≡ refuses (number (comlynxAnswer a))
+comlynx-refusal OfComlynx.Done later h = absurd (omega arith)
+comlynx-refusal (OfComlynx.Message m) later h = absurd (omega arith)
+comlynx-refusal (OfComlynx.Damaged what) later h = absurd (omega (arith, damages .within what .1))
+comlynx-refusal (OfComlynx.Refused why) later h = refl
+
+comlynx-row : RowFacts comlynxSeat
+unfolding seatAt ComlynxMachine.inRange
+comlynx-row = record {
+  own-seat = refl;
+  span = omega arith;
+  once = refl;
+  got = λ ports s. refl;
+  puts-own = λ ports. refl;
+  puts-again = λ ports s t. refl;
+  others = each-seat _ (λ ports s n. absurd (n refl)) (λ ports s n. refl) (λ ports s n. refl);
+  facts = ComlynxFacts.facts;
+  machine = ComlynxFacts.machine;
+  fresh-in-range = refl;
+  one = ComlynxOne.step-one;
+  reader = λ r later. refl;
+  used = λ r later. refl;
+  refusal = λ r. comlynx-refusal (r .answer);
+}
+
+-- ---- Eversolar
+
+eversolar-refusal : (a : EversolarAnswer.Answer) (later : List ℕ) → 8 ≤ number (eversolarAnswer a)
+    → retold (λ h. EversolarReader.join h later) (EversolarReader.told a) ≡ refuses (number (eversolarAnswer a))
+eversolar-refusal OfEversolar.Done later h = absurd (omega arith)
+eversolar-refusal (OfEversolar.Message m) later h = absurd (omega arith)
+eversolar-refusal (OfEversolar.Damaged what) later h = absurd (omega (arith, damages .within what .1))
+eversolar-refusal (OfEversolar.Refused why) later h = refl
+
+eversolar-row : RowFacts eversolarSeat
+unfolding seatAt EversolarMachine.inRange
+eversolar-row = record {
+  own-seat = refl;
+  span = omega arith;
+  once = refl;
+  got = λ ports s. refl;
+  puts-own = λ ports. refl;
+  puts-again = λ ports s t. refl;
+  others = each-seat _ (λ ports s n. refl) (λ ports s n. absurd (n refl)) (λ ports s n. refl);
+  facts = EversolarFacts.facts;
+  machine = EversolarFacts.machine;
+  fresh-in-range = refl;
+  one = EversolarOne.step-one;
+  reader = λ r later. refl;
+  used = λ r later. refl;
+  refusal = λ r. eversolar-refusal (r .answer);
+}
+
+-- ---- Fronius
+
+fronius-refusal : (a : FroniusAnswer.Answer) (later : List ℕ) → 8 ≤ number (froniusAnswer a)
+    → retold (λ h. FroniusReader.join h later) (FroniusReader.told a) ≡ refuses (number (froniusAnswer a))
+fronius-refusal OfFronius.Done later h = absurd (omega arith)
+fronius-refusal (OfFronius.Message m) later h = absurd (omega arith)
+fronius-refusal (OfFronius.Damaged what) later h = absurd (omega (arith, damages .within what .1))
+fronius-refusal (OfFronius.Refused why) later h = refl
+
+fronius-row : RowFacts froniusSeat
+unfolding seatAt FroniusMachine.inRange
+fronius-row = record {
+  own-seat = refl;
+  span = omega arith;
+  once = refl;
+  got = λ ports s. refl;
+  puts-own = λ ports. refl;
+  puts-again = λ ports s t. refl;
+  others = each-seat _ (λ ports s n. refl) (λ ports s n. refl) (λ ports s n. absurd (n refl));
+  facts = FroniusFacts.facts;
+  machine = FroniusFacts.machine;
+  fresh-in-range = refl;
+  one = FroniusOne.step-one;
+  reader = λ r later. refl;
+  used = λ r later. refl;
+  refusal = λ r. fronius-refusal (r .answer);
+}
+
+-- ---- all of them together
+
+pub factsOf : (seat : Seat) → RowFacts seat
+factsOf comlynxSeat = comlynx-row
+factsOf eversolarSeat = eversolar-row
+factsOf froniusSeat = fronius-row
+
+-- the ports are their readers, and nothing else
+together : {a b : Comlynx.Reader} {c d : Eversolar.Reader} {e f : Fronius.Reader} → a ≡ b → c ≡ d → e ≡ f
+    → _≡_ {A = Ports} (record { comlynx = a; eversolar = c; fronius = e }) (record { comlynx = b; eversolar = d; fronius = f })
+together {a} {b} {c} {d} {e} {f} x y z =
+    ap {B = Ports} (λ (v : Comlynx.Reader). record { comlynx = v; eversolar = c; fronius = e }) x
+    ∙ ap {B = Ports} (λ (v : Eversolar.Reader). record { comlynx = b; eversolar = v; fronius = e }) y
+    ∙ ap {B = Ports} (λ (v : Fronius.Reader). record { comlynx = b; eversolar = d; fronius = v }) z
+
+pub whole : (a b : Ports) → ((seat : Seat) → rowOf seat .get a ≡ rowOf seat .get b) → a ≡ b
+whole a b same = together (same comlynxSeat) (same eversolarSeat) (same froniusSeat)
+
+-- a port that has a line
+abbrev pub OnSeat : ℕ → Type 0
+OnSeat port = (seat : Seat) × (rowOf seat .port ≡ port)
+
+-- each of the ports has one
+pub ported : (port : ℕ) → 1 ≤ port → port ≤ portMost → OnSeat port
+ported zero h k = absurd (omega arith)
+ported (suc zero) h k = (comlynxSeat, refl)
+ported (suc (suc zero)) h k = (eversolarSeat, refl)
+ported (suc (suc (suc zero))) h k = (froniusSeat, refl)
+ported (suc (suc (suc (suc port)))) h k = absurd (omega arith)

@@ -1,0 +1,177 @@
+// Runs the published examples through reader and writer. Standard input is records, each a printed frame and what its document says that it is
+// (tests/published-frames makes them). Prints a line for each: document, the frame's number there, the answer, what was read, the verdict.
+mod families;
+mod parts;
+
+use families::READ;
+use families::length_of;
+use families::read;
+use families::write;
+use libc::STDIN_FILENO;
+use libc::STDOUT_FILENO;
+use parts::byte_at;
+use parts::part;
+use parts::size_at;
+
+// A record: its front, then room for data and room for a frame. The front: document, number, what is to be read (as `families` has it, so
+// how many bytes of the data and of the frame count is there too), and how many of the frame's bytes are printed.
+const FRONT: usize = 12;
+
+const PAYLOAD: usize = 48;
+
+const FRAME: usize = 64;
+
+const RECORD: usize = FRONT + PAYLOAD + FRAME;
+
+const NUMBER: usize = 1;
+
+const TO_READ: usize = 2;
+
+const PRINTED: usize = 11;
+
+// Places in what is read.
+const DATA_SIZE: usize = 7;
+
+const USED: usize = 8;
+
+// What every reader is to be lent.
+const LENT: usize = 255;
+
+// The answer with which a message is given.
+const MESSAGE: u8 = 1;
+
+// How many records are read at most.
+const RECORDS: usize = 1000;
+
+fn data_of(record: &[u8]) -> &[u8] {
+    part(record, FRONT, size_at(record, TO_READ + DATA_SIZE))
+}
+
+fn frame_of(record: &[u8]) -> &[u8] {
+    part(record, FRONT + PAYLOAD, size_at(record, TO_READ + USED))
+}
+
+// Whether what was read is what the document says, with its data.
+fn reads(record: &[u8], got: &[u8], lent: &[u8]) -> bool {
+    let payload = data_of(record);
+    check::same(got, part(record, TO_READ, READ))
+        & check::same(part(lent, 0, payload.len()), payload)
+}
+
+// Whether a message is written as the frame: all of its length, and its bytes as far as they are printed.
+fn writes(record: &[u8], again: &[u8]) -> bool {
+    let frame = frame_of(record);
+    let printed = size_at(record, PRINTED);
+    (again.len() == frame.len()) & check::same(part(again, 0, printed), part(frame, 0, printed))
+}
+
+fn print(text: &[u8]) {
+    io::write_all(STDOUT_FILENO, text);
+}
+
+fn print_number(n: u8) {
+    io::print_decimal(STDOUT_FILENO, n as u64);
+    print(b" ");
+}
+
+fn print_hex(b: u8) {
+    io::print_hex(STDOUT_FILENO, b as u64, 2);
+}
+
+// Bytes in hex.
+fn print_bytes(s: &[u8]) {
+    let mut i = 0;
+    while i < s.len() {
+        print_hex(s[i]);
+        i += 1;
+    }
+    print(b" ");
+}
+
+// Data in hex, `-` where there are none.
+fn print_data(s: &[u8]) {
+    if s.len() == 0 {
+        print(b"- ");
+        return;
+    }
+    print_bytes(s);
+}
+
+// From, to, code and data of a message.
+fn print_message(got: &[u8], lent: &[u8]) {
+    if byte_at(got, 0) != MESSAGE {
+        return;
+    }
+    print_bytes(part(got, 1, 2));
+    print_bytes(part(got, 3, 2));
+    print_bytes(part(got, 5, 2));
+    print_data(part(lent, 0, size_at(got, DATA_SIZE)));
+}
+
+// Whether a record of that answer is read and, where that is a message, written as its document says.
+fn agrees(reads: bool, writes: bool, answer: u8) -> bool {
+    reads & (writes | (answer != MESSAGE))
+}
+
+fn print_verdict(agrees: bool, answer: u8) {
+    if !agrees {
+        print(b"differs\n");
+        return;
+    }
+    if answer == MESSAGE {
+        print(b"ok\n");
+        return;
+    }
+    print(b"damaged\n");
+}
+
+// The line of a record, of which `got` was read, its data in `lent`, and `again` was written.
+fn report(record: &[u8], got: &[u8], lent: &[u8], again: &[u8]) {
+    print(b"00");
+    print_number(byte_at(record, 0));
+    print_number(byte_at(record, NUMBER));
+    print_number(byte_at(got, 0));
+    print_message(got, lent);
+    let answer = byte_at(record, TO_READ);
+    print_verdict(
+        agrees(reads(record, got, lent), writes(record, again), answer),
+        answer,
+    );
+}
+
+// The port that has the family of a document.
+fn port_of(document: u8) -> u8 {
+    match document {
+        0 => 1,
+        1 => 2,
+        _ => 3,
+    }
+}
+
+// Reads the frame and writes the message of a record. No frame has the number 0: behind the records there is nothing to try.
+fn try_record(record: &[u8]) {
+    if byte_at(record, NUMBER) == 0 {
+        return;
+    }
+    let mut lent = [0u8; LENT];
+    let mut again = [0u8; LENT];
+    let port = port_of(byte_at(record, 0));
+    let got = read(port, frame_of(record), &mut lent);
+    let n = length_of(write(
+        port,
+        part(record, TO_READ + 1, 6),
+        data_of(record),
+        &mut again,
+    ));
+    report(record, &got, &lent, part(&again, 0, n));
+}
+
+fn main() {
+    let mut input = io::large_buffer();
+    io::read_full(STDIN_FILENO, &mut input);
+    let mut i = 0;
+    while i < RECORDS {
+        try_record(part(&input, RECORD * i, RECORD));
+        i += 1;
+    }
+}
