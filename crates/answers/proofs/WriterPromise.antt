@@ -10,6 +10,7 @@ use lib.Seq.{take-append-seam}
 use lib.Dec.{ltb}
 use borrow.Author.Tests.{lt-ltb, le-ltb}
 use native.Mathlib.Omega.{arith}
+use Rattle.numbers.proofs.Alike.{zero-is-one}
 use Rattle.answers.specs.Answer.{Answer, answer}
 use Rattle.answers.specs.Refusal as Refusal
 use Rattle.answers.specs.Written.{told, lengthOf, writing, Writes}
@@ -43,7 +44,7 @@ some-same : {m n : ℕ} → _≡_ {A = Option ℕ} (some m) (some n) → m ≡ n
 some-same e = cc
 
 none-some : {A : Type 0} {n : ℕ} → _≡_ {A = Option ℕ} none (some n) → A
-none-some e = let z : _≡_ {A = ℕ} 0 1 = cc in absurd (omega arith)
+none-some e = zero-is-one cc
 
 refused-done : {A : Type 0} (why n : ℕ) → 8 ≤ why → {m : ℕ} → answer 0 (m ∷ []) ≡ answer why (n ∷ []) → A
 refused-done why n h e = let z : 0 ≡ why = cc in absurd (omega arith)

@@ -10,6 +10,7 @@ use lib.Dec.{T, eqb}
 use lib.Pow.{areBytes}
 use borrow.Author.Tests.{eqb-true}
 use native.Mathlib.Omega.{arith}
+use Rattle.numbers.proofs.Alike.{zero-is-one}
 use Rattle.comlynx_checksum.specs.Fcs.{sent, others, agrees}
 use Rattle.comlynx_checksum.proofs.SentAgrees.{only-these}
 use Rattle.stream.specs.Event.{message, damage}
@@ -21,7 +22,7 @@ use Rattle.comlynx.proofs.JudgedIsDelivered.{both, sized-bounds}
 use Rattle.comlynx.proofs.UnstuffingUndoes.{in-test, bytes-unstuffed, stands-for}
 
 wrong : {A : Type 0} (k : ℕ) (m : Message) → damage k ≡ message m → A
-wrong k m q = let z : _≡_ {A = ℕ} 0 1 = cc in absurd (omega arith)
+wrong k m q = zero-is-one cc
 
 bytes-at : (s : List ℕ) (i : ℕ) → T (areBytes s) → getD s i 0 < 256
 bytes-at [] i p = omega arith

@@ -9,6 +9,7 @@ use lib.Dec.{eqb}
 use borrow.Author.Count.{below-more}
 use borrow.Author.Tests.{eqb-false}
 use native.Mathlib.Omega.{arith}
+use Rattle.numbers.proofs.Alike.{zero-is-one}
 use Rattle.stream.specs.Pieces.{scanFrom}
 use Rattle.stream.proofs.LoopScans.{from-goes}
 use Rattle.comlynx.specs.Wire.{flag, escape}
@@ -54,9 +55,9 @@ filled-more p i c h j k d m l e f g =
 
 three : (g x y : Bool) → (g && not x) && not y ≡ true → (g ≡ true) × (x ≡ false) × (y ≡ false)
 three true false false e = (refl, refl, refl)
-three true false true e = let z : _≡_ {A = ℕ} 0 1 = cc in absurd (omega arith)
-three true true y e = let z : _≡_ {A = ℕ} 0 1 = cc in absurd (omega arith)
-three false x y e = let z : _≡_ {A = ℕ} 0 1 = cc in absurd (omega arith)
+three true false true e = zero-is-one cc
+three true true y e = zero-is-one cc
+three false x y e = zero-is-one cc
 
 pub plain-more : (s : List ℕ) (at k : ℕ) (g : Bool) → (g ≡ true → AllPlain s at k)
     → (g && not (eqb (getD s (at + k) 0) flag)) && not (eqb (getD s (at + k) 0) escape) ≡ true → AllPlain s at (k + 1)
@@ -66,8 +67,8 @@ plain-more s at k g f e =
 
 either : (x y : Bool) → x || y ≡ false → (x ≡ false) × (y ≡ false)
 either false false e = (refl, refl)
-either false true e = let z : _≡_ {A = ℕ} 0 1 = cc in absurd (omega arith)
-either true y e = let z : _≡_ {A = ℕ} 0 1 = cc in absurd (omega arith)
+either false true e = zero-is-one cc
+either true y e = zero-is-one cc
 
 pub plain-of : (b : ℕ) → eqb b flag || eqb b escape ≡ false → Plain b
 plain-of b e = let t = either (eqb b flag) (eqb b escape) e in (eqb-false b flag (t .0), eqb-false b escape (t .1))

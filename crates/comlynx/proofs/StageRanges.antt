@@ -6,6 +6,7 @@ use mathlib.Core.Bool.{Bool, true, false, cond}
 use lib.Dec.{eqb, ltb, leb}
 use borrow.Author.Tests.{le-leb, eq-eqb, ne-eqb, ltb-true, leb-true, eqb-true, eqb-false}
 use native.Mathlib.Omega.{arith}
+use Rattle.numbers.proofs.Alike.{zero-is-one}
 use Rattle.comlynx.specs.Wire.{flag, escape}
 use Rattle.comlynx.specs.Machine as Machine
 use Rattle.comlynx.specs.Machine.{bodyMax, tooMany, keepOf, advanceOf}
@@ -17,7 +18,7 @@ pub data Range (stage count : ℕ) : Type 0 where
   within : 0 < stage → stage ≤ 3 → count ≤ tooMany → Range stage count
 
 pub false-true : {A : Type 0} → false ≡ true → A
-false-true e = let z : _≡_ {A = ℕ} 0 1 = cc in absurd (omega arith)
+false-true e = zero-is-one cc
 
 eqb-zero : (n : ℕ) → eqb n 0 ≡ false → 0 < n
 eqb-zero n e = omega (arith, eqb-false n 0 e)

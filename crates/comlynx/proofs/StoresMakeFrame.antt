@@ -10,6 +10,7 @@ use lib.Dec.{eqb}
 use borrow.Author.Tests.{eq-eqb, ne-eqb}
 use native.Mathlib.Numerals.{add-one}
 use native.Mathlib.Omega.{arith}
+use Rattle.numbers.proofs.Alike.{zero-is-one}
 use Rattle.stream.proofs.ListLaws.{sets-append}
 use Rattle.comlynx.specs.Wire.{flag, escape, stuffed}
 use Rattle.comlynx.specs.Inside.{Stuffs, framed}
@@ -35,14 +36,14 @@ width-two b e = go (eqb b flag) (eqb b escape) e
     go : (t u : Bool) → t || u ≡ true → 2 ≡ length (cond t (escape ∷ 0x5E ∷ []) (cond u (escape ∷ 0x5D ∷ []) (b ∷ [])))
     go true u e = refl
     go false true e = refl
-    go false false e = let z : _≡_ {A = ℕ} 0 1 = cc in absurd (omega arith)
+    go false false e = zero-is-one cc
 
 pub width-one : (b : ℕ) → eqb b flag || eqb b escape ≡ false → 1 ≡ length (stuffed (b ∷ []))
 width-one b e = go (eqb b flag) (eqb b escape) e
   where
     go : (t u : Bool) → t || u ≡ false → 1 ≡ length (cond t (escape ∷ 0x5E ∷ []) (cond u (escape ∷ 0x5D ∷ []) (b ∷ [])))
-    go true u e = let z : _≡_ {A = ℕ} 0 1 = cc in absurd (omega arith)
-    go false true e = let z : _≡_ {A = ℕ} 0 1 = cc in absurd (omega arith)
+    go true u e = zero-is-one cc
+    go false true e = zero-is-one cc
     go false false e = refl
 
 pub put-pair : (b at x : ℕ) (l : List ℕ) → stuffed (b ∷ []) ≡ escape ∷ x ∷ [] → Stuffs (b ∷ []) at l (at + 2) (set (set l at escape) (at + 1) x)

@@ -10,6 +10,7 @@ use lib.Dec.{T, eqb}
 use lib.Pow.{areBytes}
 use borrow.Author.Tests.{eqb-true, eqb-false, ne-eqb}
 use native.Mathlib.Omega.{arith}
+use Rattle.numbers.proofs.Alike.{zero-is-one}
 use Rattle.stream.proofs.BytesOfParts.{bytes-cons, bytes-head, bytes-tail}
 use Rattle.comlynx.specs.Wire.{flag, escape, stuffed}
 use Rattle.comlynx.specs.Rules.{withFirst, unstuffed}
@@ -85,7 +86,7 @@ bytes-unstuffed (b ∷ s) p =
 -- ---- a stretch that stands for u is u stuffed, and nothing else
 
 front-inv : (b : ℕ) (o : Option (List ℕ)) (u : List ℕ) → withFirst b o ≡ some u → (v : List ℕ) × (o ≡ some v) × (u ≡ b ∷ v)
-front-inv b none u e = let z : _≡_ {A = ℕ} 0 1 = cc in absurd (omega arith)
+front-inv b none u e = zero-is-one cc
 front-inv b (some v) u e = (v, refl, cc)
 
 plain : (b : ℕ) (s v : List ℕ) → eqb b flag ≡ false → eqb b escape ≡ false → s ≡ stuffed v → b ∷ s ≡ stuffed (b ∷ v)
@@ -97,7 +98,7 @@ Stands true s u = escape ∷ s ≡ stuffed u
 
 stands : (s : List ℕ) (t : Bool) (u : List ℕ) → Stretch s → unstuffed t s ≡ some u → Stands t s u
 stands [] false u k e = let q : u ≡ [] = cc in rw q
-stands [] true u k e = let z : _≡_ {A = ℕ} 0 1 = cc in absurd (omega arith)
+stands [] true u k e = zero-is-one cc
 stands (b ∷ s) false u k e =
     in-test (λ o. o ≡ some u) (b ∷ s ≡ stuffed u) (eqb b escape) (unstuffed true s) (withFirst b (unstuffed false s)) e
     (λ f h. ap (λ (x : ℕ). x ∷ s) (eqb-true b escape f) ∙ stands s true u (k .1) h)
@@ -115,7 +116,7 @@ stands (b ∷ s) true u k e =
     (λ g i.
     let (v, p, q) = front-inv escape (unstuffed false s) u i in
     ap₂ (λ (x : ℕ) (l : List ℕ). escape ∷ x ∷ l) (eqb-true b 0x5D g) (stands s false v (k .1) p) ∙ ap stuffed (sym q))
-    (λ g i. let z : _≡_ {A = ℕ} 0 1 = cc in absurd (omega arith)))
+    (λ g i. zero-is-one cc))
 
 pub stands-for : (s u : List ℕ) → Stretch s → unstuffed false s ≡ some u → s ≡ stuffed u
 stands-for s u k e = stands s false u k e

@@ -1,7 +1,10 @@
 // The streaming reader: bytes go in by pieces, messages and damages come out, whatever the pieces.
 use answers::Damage;
 use answers::Refusal;
-ghost use Prim.Native.Nat.{min, _+_, _-_, _*_, _≤_};
+use numbers::least;
+use numbers::wide;
+use numbers::word;
+ghost use Prim.Native.Nat.{_+_, _-_, _*_, _≤_};
 ghost use mathlib.Core.Path.{_≡_};
 ghost use mathlib.Core.Bool.{true};
 ghost use lib.ListN.{length};
@@ -238,13 +241,6 @@ fn fill_bytes(held: &mut [u8; BODY], count: usize, piece: &[u8], from: usize, st
     i
 }
 
-// The smaller of two numbers.
-fn least(a: usize, b: usize) -> usize
-    ensures { λ r. ⌜ r ≡ min a b ⌝ }
-{
-    if a < b { a } else { b }
-}
-
 // Takes in plain bytes from `from` on while there is room; gives the place after the last.
 fn fill(held: &mut [u8; BODY], count: usize, piece: &[u8], from: usize) -> usize
     requires { ⌜ (count ≤ bodyMax) × (from ≤ length (now piece)) × (length (now held) ≡ bodyMax) ⌝ }
@@ -357,20 +353,6 @@ fn ends(count: usize, low: u8, high: u8, held: &[u8]) -> bool
     ensures { λ r. ⌜ r ≡ due count low high (now (held .entry)) ⌝ }
 {
     (held[count - SUM] == low) & (held[count - 1] == high)
-}
-
-// Two bytes as one number, high byte first.
-fn word(high: u8, low: u8) -> u16
-    ensures { λ r. ⌜ r ≡ high * 256 + low ⌝ }
-{
-    high as u16 * 256 + low as u16
-}
-
-// A byte as a length.
-fn wide(b: u8) -> usize
-    ensures { λ r. ⌜ r ≡ b ⌝ }
-{
-    b as usize
 }
 
 // The checks of a closed stretch in order, by its `count` unstuffed bytes and the two checksum bytes that are due.

@@ -13,6 +13,7 @@ use lib.ListN.{length, getD, take, drop, length-append, take-append-drop, drop-o
 use lib.Pow.{areBytes}
 use lib.Seq.{take-at, drop-at, drop-cons}
 use mir.Facts.{and-yes, yes-and}
+use Rattle.numbers.proofs.Alike.{zero-is-one}
 use Rattle.comlynx_checksum.specs.Fcs.{poly, folded, bitStep, bitSteps, entry, fcsNext, fcsFrom, fcsOf, complement, sentAfter, sent, others, lastTwo, same, agrees, IsSentOf}
 use Rattle.comlynx_checksum.specs.declared.Sent.{Sent}
 use Rattle.comlynx_checksum.specs.Demands.{Passes, OnlyThese, Bounds}
@@ -20,7 +21,7 @@ use Rattle.comlynx_checksum.specs.Demands.{Passes, OnlyThese, Bounds}
 -- ---- `same` is equality
 
 apart : false ≡ true → ⊥
-apart e = let z : _≡_ {A = ℕ} 0 1 = cc in omega arith
+apart e = zero-is-one cc
 
 and-true : (a b : Bool) → a && b ≡ true → (a ≡ true) × (b ≡ true)
 and-true true b e = (refl, e)

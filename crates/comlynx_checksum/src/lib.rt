@@ -1,6 +1,6 @@
 // The checksum of ComLynx, CRC-16/X-25, of slices of bytes.
+use numbers::least;
 ghost use mathlib.Core.Path.{_≡_};
-ghost use Prim.Native.Nat.{min};
 ghost use Rattle.comlynx_checksum.specs.Fcs.{fcsNext, IsOf, IsOfFirst, IsMore, IsSentOf};
 ghost use Rattle.comlynx_checksum.specs.Table.{fcsTable};
 
@@ -309,13 +309,6 @@ pub fn of(s: &[u8]) -> u16
     ensures { λ r. ⌜ IsOf (now (s .entry)) r ⌝ }
 {
     more(START, s)
-}
-
-// The smaller of two numbers.
-fn least(a: usize, b: usize) -> usize
-    ensures { λ r. ⌜ r ≡ min a b ⌝ }
-{
-    if a < b { a } else { b }
 }
 
 // The checksum of the first `n` bytes of `s`, of all of it where it has fewer.

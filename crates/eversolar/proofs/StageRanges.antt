@@ -6,6 +6,7 @@ use mathlib.Core.Bool.{Bool, true, false, cond}
 use lib.Dec.{eqb, ltb, leb}
 use borrow.Author.Tests.{lt-ltb, le-ltb, eq-eqb, ne-eqb, le-leb, ltb-true, ltb-false, leb-true, eqb-true}
 use native.Mathlib.Omega.{arith}
+use Rattle.numbers.proofs.Alike.{zero-is-one}
 use Rattle.eversolar.specs.Wire.{payloadMax}
 use Rattle.eversolar.specs.Machine as Machine
 use Rattle.eversolar.specs.Machine.{bodyMax, most, advanceOf}
@@ -18,7 +19,7 @@ pub data Range (stage count len : ℕ) : Type 0 where
   body : stage ≡ 3 → len ≤ payloadMax → 7 ≤ count → count ≤ 8 + len → Range stage count len
 
 false-true : {A : Type 0} → false ≡ true → A
-false-true e = let z : _≡_ {A = ℕ} 0 1 = cc in absurd (omega arith)
+false-true e = zero-is-one cc
 
 pub range-of : (stage count len : ℕ) → Machine.inRange stage count len ≡ true → Range stage count len
 unfolding Machine.inRange

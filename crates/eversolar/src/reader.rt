@@ -2,7 +2,8 @@
 use answers::Damage;
 use answers::Refusal;
 use eversolar_words::word;
-ghost use Prim.Native.Nat.{min, _+_, _*_, _≤_, _<_};
+use numbers::least;
+ghost use Prim.Native.Nat.{_+_, _*_, _≤_, _<_};
 ghost use mathlib.Core.Path.{_≡_};
 ghost use mathlib.Core.Bool.{true};
 ghost use lib.ListN.{length, take, drop};
@@ -180,13 +181,6 @@ struct Ran {
     len: usize,
     used: usize,
     end: End,
-}
-
-// The smaller of two numbers.
-fn least(a: usize, b: usize) -> usize
-    ensures { λ r. ⌜ r ≡ min a b ⌝ }
-{
-    if a < b { a } else { b }
 }
 
 // Takes in bytes from `from` on, which need no look, as many as are kept and the piece has; gives the place after the last.

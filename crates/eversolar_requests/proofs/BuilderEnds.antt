@@ -9,6 +9,7 @@ use lib.ListN.{length, take, drop, set, replicate, length-append}
 use lib.Seq.{take-length, set-at}
 use borrow.Author.Tests.{le-ltb, eq-eqb, ne-eqb}
 use native.Mathlib.Omega.{arith}
+use Rattle.numbers.proofs.Alike.{zero-is-one}
 use Rattle.answers.specs.Written.{lengthOf, Writes}
 use Rattle.answers.specs.declared.Written.{Written}
 use Rattle.answers.specs.declared.Written.the-variants.{Done, Refused}
@@ -110,7 +111,7 @@ module _ (serial : List ℕ) (address : ℕ) (lent : List ℕ) where
 -- ---- what a promise gives
 
 none-some : {A : Type 0} {n : ℕ} → _≡_ {A = Option ℕ} none (some n) → A
-none-some e = let z : _≡_ {A = ℕ} 0 1 = cc in absurd (omega arith)
+none-some e = zero-is-one cc
 
 -- a request of which a length is told passed its tests, and was written as the writer writes
 pub record Wrote (address serial : Bool) (m : Message) (lent : List ℕ) (w : Written) (later : List ℕ) : Type 0 where

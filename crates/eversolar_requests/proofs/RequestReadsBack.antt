@@ -10,6 +10,7 @@ use lib.Dec.{T, leb}
 use lib.Pow.{areBytes}
 use borrow.Author.Tests.{le-ltb, leb-true, eqb-true}
 use native.Mathlib.Omega.{arith}
+use Rattle.numbers.proofs.Alike.{zero-is-one}
 use Rattle.answers.specs.Written.{lengthOf, Writes}
 use Rattle.answers.specs.declared.Written.{Written}
 use Rattle.stream.specs.Event.{message, gives}
@@ -57,7 +58,7 @@ ask-all-reads-back what room frame w n h e = reads-as (askAll what) room frame w
 
 and-right : (a b : Bool) → (a && b) ≡ true → b ≡ true
 and-right true b e = e
-and-right false b e = let z : _≡_ {A = ℕ} 0 1 = cc in absurd (omega arith)
+and-right false b e = zero-is-one cc
 
 address-byte : (address : ℕ) → isAddress address ≡ true → address < 256
 unfolding isAddress

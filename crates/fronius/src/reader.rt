@@ -1,7 +1,8 @@
 // The streaming reader: bytes go in by pieces, messages and damages come out, whatever the pieces.
 use answers::Damage;
 use answers::Refusal;
-ghost use Prim.Native.Nat.{min, _+_, _*_, _%_, _≤_};
+use numbers::least;
+ghost use Prim.Native.Nat.{_+_, _*_, _%_, _≤_};
 ghost use mathlib.Core.Path.{_≡_};
 ghost use mathlib.Core.Bool.{true};
 ghost use mathlib.Core.List.{_∷_, _++_};
@@ -141,13 +142,6 @@ struct Ran {
     len: usize,
     used: usize,
     end: End,
-}
-
-// The smaller of two numbers.
-fn least(a: usize, b: usize) -> usize
-    ensures { λ r. ⌜ r ≡ min a b ⌝ }
-{
-    if a < b { a } else { b }
 }
 
 // Takes in bytes of the body from `from` on, which need no look, as many as it still lacks and the piece has; gives the place after the last.

@@ -1,11 +1,11 @@
 -- The seven tests of a command, as a chain.
 -- Assumes nothing.
 use Prim.Native.Nat.{ℕ}
-use native.Mathlib.Omega.{arith}
 use mathlib.Core.Path.{_≡_, refl, ap}
 use mathlib.Core.Bool.{Bool, true, false, cond, _||_, false≢true}
 use mathlib.Core.Option.{Option, none, some}
 use lib.Ieee.{Float}
+use Rattle.numbers.proofs.Alike.{zero-is-one}
 use Rattle.fronius_meaning.specs.Reading.{isKind, carried}
 use Rattle.fronius_meaning.specs.Demands.{doubleIn}
 use Rattle.fronius_meaning.specs.declared.reading.Reading.{Reading}
@@ -29,8 +29,7 @@ same q r h =
 
 none-is-not-some : (r : Reading) → none ≡ some r → ⊥
 none-is-not-some r h =
-    let z : _≡_ {A = ℕ} 0 1 = cc in
-    omega arith
+    zero-is-one cc
 
 -- it finds something where one of them passes
 pub found : (w e a v f m o : Bool) → (w || e || a || v || f || m || o) ≡ isKind (chain w e a v f m o)

@@ -1,5 +1,6 @@
 // A measured value, three data bytes: high, low, exponent. Here in whole thousandths.
 use answers::Refusal;
+use numbers::word;
 ghost use mathlib.Core.Path.{_≡_};
 ghost use mathlib.Core.Bool.{false};
 ghost use Prim.Native.Nat.{_+_, _*_, _^_, _<_};
@@ -28,13 +29,6 @@ pub fn thousandths(payload: &[u8], signed: bool) -> Measured
     }
     let v = value(word(payload[0], payload[1]), signed);
     Measured::Thousandths(times_ten_to(v, tens(exponent)))
-}
-
-// The two-byte value, before anyone says whether it is signed.
-pub(crate) fn word(high: u8, low: u8) -> u16
-    ensures { λ r. ⌜ r ≡ high * 256 + low ⌝ }
-{
-    (high as u16) * 256 + (low as u16)
 }
 
 // An exponent byte is signed, so that from 128 on it stands for a number below 0: FD is -3 and not 253.

@@ -2,8 +2,8 @@
 use crate::measured::ten_to;
 use crate::measured::too_great;
 use crate::measured::too_small;
-use crate::measured::word;
 use answers::Refusal;
+use numbers::word;
 ghost use mathlib.Core.Path.{_≡_};
 ghost use mathlib.Core.Bool.{true, false};
 ghost use mathlib.Core.Option.{some};

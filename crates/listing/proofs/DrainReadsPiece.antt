@@ -10,6 +10,7 @@ use lib.Seq.{sets, sets-eq, length-sets, drop-drop, take-all}
 use native.Mathlib.Nat.{le-refl, zero-add}
 use native.Mathlib.Omega.{arith}
 use borrow.Rule.Slice.PartMut.{putMid}
+use Rattle.numbers.proofs.Alike.{zero-is-one}
 use Rattle.answers.specs.Written.{Writes}
 use Rattle.answers.specs.declared.Written.{Written}
 use Rattle.stream.specs.Event.{Event, message, damage, Told, done, gives, refuses, outcome}
@@ -167,7 +168,7 @@ module _ {S M : Type 0} (next : S → ℕ → Moved S (Event M)) (show : M → S
 -- ---- a call
 
 false-true : {A : Type 0} → false ≡ true → A
-false-true e = let z : _≡_ {A = ℕ} 0 1 = cc in absurd (omega arith)
+false-true e = zero-is-one cc
 
 -- the event that was told, if there was one
 abbrev pub given : {M : Type 0} → Told M → Option (Event M)

@@ -9,11 +9,12 @@ use lib.Dec.{ltb}
 use borrow.Author.Tests.{lt-ltb, le-ltb, ltb-true, ltb-false, ne-eqb}
 use native.Mathlib.Nat.{add-zero, zero-add, add-suc, suc-add, le-of-suc-le-suc, not-suc-le-zero}
 use native.Mathlib.Omega.{arith}
+use Rattle.numbers.proofs.Alike.{zero-is-one}
 use Rattle.listing_text.specs.Lines.{hexDigit, hex, field, digits, decimal, titleLine, Shown, tooLong, fieldMax, messageLine, damageLine, stopLine, endWord, endLine}
 use Rattle.listing_text.specs.Inside.{widthOf, digitsFrom, hexDigits, placesMax, messageLength, start}
 
 never : {A : Type 0} → true ≡ false → A
-never e = let z : _≡_ {A = ℕ} 0 1 = cc in absurd (omega arith)
+never e = zero-is-one cc
 
 -- ---- hex
 

@@ -9,6 +9,7 @@ use lib.ListN.{length, take, drop, length-take, length-drop}
 use lib.Dec.{eqb, ltb}
 use borrow.Author.Tests.{eqb-true, eqb-false, le-ltb}
 use native.Mathlib.Omega.{arith}
+use Rattle.numbers.proofs.Alike.{zero-is-one}
 use Rattle.answers.specs.Answer.{number}
 use Rattle.answers.specs.Refusal.{number as refusalNumber}
 use Rattle.answers.specs.declared.Refusal.{Refusal}
@@ -100,20 +101,20 @@ module _ (l : Listing) (sound : Sound l) (why : Refusal) where
 
   front-not : (s : List ℕ) (ended : Bool) → Kind s → front l s ended .heard ≡ Refused why → ⊥
   unfolding front
-  front-not s true (short n h) = rw n (λ e. let z : _≡_ {A = ℕ} 0 1 = cc in omega arith)
-  front-not s false (short n h) = rw n (λ e. let z : _≡_ {A = ℕ} 0 1 = cc in omega arith)
-  front-not s ended (wrong w a b n m) = rw (n, a, b) (λ e. let z : _≡_ {A = ℕ} 0 1 = cc in omega arith)
+  front-not s true (short n h) = rw n (λ e. zero-is-one cc)
+  front-not s false (short n h) = rw n (λ e. zero-is-one cc)
+  front-not s ended (wrong w a b n m) = rw (n, a, b) (λ e. zero-is-one cc)
   front-not s ended (packet a p c d t n m) =
-      rw (n, readable-at (portIn s) p) (λ e. let z : _≡_ {A = ℕ} 0 1 = cc in omega arith)
+      rw (n, readable-at (portIn s) p) (λ e. zero-is-one cc)
 
   going-not : (s : List ℕ) (ended : Bool) → going l s ended .heard ≡ Refused why → ⊥
   unfolding going
-  going-not [] true = λ e. let z : _≡_ {A = ℕ} 0 1 = cc in omega arith
-  going-not [] false = λ e. let z : _≡_ {A = ℕ} 0 1 = cc in omega arith
+  going-not [] true = λ e. zero-is-one cc
+  going-not [] false = λ e. zero-is-one cc
   going-not (b ∷ bs) ended = go (eqb (l .packets) packetsMax)
     where
       go : (t : Bool) → cond t (ends l (some (refusalNumber TooManyPackets))) (front l (b ∷ bs) ended) .heard ≡ Refused why → ⊥
-      go true e = let z : _≡_ {A = ℕ} 0 1 = cc in omega arith
+      go true e = zero-is-one cc
       go false e = front-not (b ∷ bs) ended (kind (b ∷ bs)) e
 
   made-not : (s : List ℕ) (ended : Bool) (room : ℕ) → roomLeast ≤ room → made l s ended room .heard ≡ Refused why → ⊥

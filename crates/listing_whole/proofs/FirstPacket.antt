@@ -32,7 +32,7 @@ module _ (s rest : List ℕ) (long : leadLength ≤ length s) where
   same-count = at 6 (omega arith)
 
   same-version : versionIn (s ++ rest) ≡ versionIn s
-  same-version = ap₂ (λ (h l : ℕ). 256 * h + l) (at 3 (omega arith)) (at 4 (omega arith))
+  same-version = ap₂ (λ (h l : ℕ). h * 256 + l) (at 3 (omega arith)) (at 4 (omega arith))
 
   same-mark : marked (s ++ rest) ≡ marked s
   unfolding marked

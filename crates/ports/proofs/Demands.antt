@@ -9,6 +9,7 @@ use mathlib.Core.List.{List, [], _∷_}
 use lib.ListN.{length}
 use lib.Dec.{ltb}
 use native.Mathlib.Omega.{arith}
+use Rattle.numbers.proofs.Alike.{zero-is-one}
 use Rattle.stream.specs.Event.{Event, message, refuses, outcome}
 use Rattle.stream.specs.Pieces.{Called, scan}
 use Rattle.stream.specs.Call.{Seen, lentLeast, refused, answered}
@@ -25,8 +26,8 @@ use Rattle.ports.proofs.EveryRow.{factsOf}
 -- ---- no reader refuses with 12
 
 no-refusal : {M : Type 0} (o : Option (Event M)) (n : ℕ) → outcome o ≡ refuses n → ⊥
-no-refusal none n h = let z : _≡_ {A = ℕ} 0 1 = cc in omega arith
-no-refusal (some e) n h = let z : _≡_ {A = ℕ} 0 1 = cc in omega arith
+no-refusal none n h = zero-is-one cc
+no-refusal (some e) n h = zero-is-one cc
 
 not-12 : {S M : Type 0} (t u : Bool) (s : S) (c : Called S (Event M)) → cond t (cond u (refused {M = M} 9 s) (answered c)) (refused 18 s) .told ≡ refuses 12 → ⊥
 not-12 true true s c h = let z : _≡_ {A = ℕ} 9 12 = cc in omega arith

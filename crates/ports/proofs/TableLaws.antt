@@ -9,6 +9,7 @@ use mathlib.Core.List.{List, [], _∷_}
 use lib.Dec.{eqb}
 use borrow.Author.Tests.{ne-eqb, eqb-true, eqb-false}
 use native.Mathlib.Omega.{arith}
+use Rattle.numbers.proofs.Alike.{zero-is-one}
 use Rattle.ports.specs.Ports.{Seat, seats, portMost, sumOver, rowOf, seatAmong, seatAt}
 use Rattle.ports.specs.declared.Ports.{Ports}
 use Rattle.ports.specs.declared.Step.{Step}
@@ -45,7 +46,7 @@ unfolding seatAt
 no-seat port out = none-among seats port out
 
 pub no-none : (seat : Seat) → some seat ≡ none → ⊥
-no-none seat e = let z : _≡_ {A = ℕ} 0 1 = cc in omega arith
+no-none seat e = zero-is-one cc
 
 pub outside : (port : ℕ) → ((1 ≤ port) × (port ≤ portMost) → ⊥) → seatAt port ≡ none
 outside port out = no-seat port (λ seat e. out (omega (arith, factsOf seat .span .0), omega (arith, factsOf seat .span .1)))

@@ -10,12 +10,13 @@ use lib.ListN.{length, getD, set, length-set}
 use lib.Seq.{set-out}
 use lib.Dec.{eqb}
 use borrow.Author.Tests.{eqb-true, eq-eqb, ne-eqb, not-true}
+use Rattle.numbers.proofs.Alike.{zero-is-one}
 use Rattle.roster.specs.Roster.{serialSize, usedPlace, freePlace, used, free, usedBy, same, good, first, none, alone, sound}
 use Rattle.roster.specs.declared.Place.{Place}
 use Rattle.roster.proofs.SoundTest.{both, eqb-alike, Fine}
 
 pub no : {A : Type 0} → true ≡ false → A
-no e = let z : _≡_ {A = ℕ} 0 1 = cc in absurd (omega arith)
+no e = zero-is-one cc
 
 -- ---- serials
 

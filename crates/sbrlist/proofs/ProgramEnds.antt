@@ -6,6 +6,7 @@ use mathlib.Core.Bool.{Bool, true, false}
 use mathlib.Core.List.{List, _++_}
 use lib.ListN.{length, take, drop, length-append, length-take}
 use native.Mathlib.Omega.{arith}
+use Rattle.numbers.proofs.Alike.{zero-is-one}
 use Rattle.answers.specs.declared.Written.{Written}
 use Rattle.answers.specs.declared.Written.the-variants.{Done}
 use Rattle.answers.proofs.WriterPromise.{writes-frame}
@@ -47,4 +48,4 @@ took-less p q a b false h e = omega arith
 pub more-less : (p q a b : ℕ) (e f : Bool) → q ≡ p → e ≡ false → a < leadLength + pieceMax → a ≤ b → (f ≡ false → a < b) → left q b f < left p a e
 more-less p q a b false true same x few on grows = omega arith
 more-less p q a b false false same x few on grows = omega (arith, grows refl)
-more-less p q a b true f same x few on grows = let z : _≡_ {A = ℕ} 0 1 = cc in absurd (omega arith)
+more-less p q a b true f same x few on grows = zero-is-one cc

@@ -9,6 +9,7 @@ use lib.ListN.{length, take, drop, length-drop, take-append-drop, drop-of-length
 use lib.Dec.{T, ltb}
 use lib.Pow.{areBytes}
 use native.Mathlib.Omega.{arith}
+use Rattle.numbers.proofs.Alike.{zero-is-one}
 use Rattle.stream.specs.Event.{Event, message, Told, done, gives, refuses, outcome}
 use Rattle.stream.specs.Pieces.{Moved, Called, scan}
 use Rattle.stream.specs.Call.{Seen, lentLeast, refused, answered, called}
@@ -26,17 +27,17 @@ use Rattle.stream.proofs.FamilyFacts.{found, Facts}
 -- ---- what is told by different names is different
 
 done-refuses : {M : Type 0} {n : ℕ} → _≡_ {A = Told M} done (refuses n) → ⊥
-done-refuses h = let z : _≡_ {A = ℕ} 0 1 = cc in omega arith
+done-refuses h = zero-is-one cc
 
 gives-refuses : {M : Type 0} {e : Event M} {n : ℕ} → gives e ≡ refuses n → ⊥
-gives-refuses h = let z : _≡_ {A = ℕ} 0 1 = cc in omega arith
+gives-refuses h = zero-is-one cc
 
 nine-eighteen : {M : Type 0} → _≡_ {A = Told M} (refuses 9) (refuses 18) → ⊥
 nine-eighteen h = let z : _≡_ {A = ℕ} 9 18 = cc in omega arith
 
 told-done : {M : Type 0} (o : Option (Event M)) → outcome o ≡ done → o ≡ none
 told-done none h = refl
-told-done (some e) h = let z : _≡_ {A = ℕ} 0 1 = cc in absurd (omega arith)
+told-done (some e) h = zero-is-one cc
 
 -- ---- a call that is not refused is the scan of its piece
 
@@ -85,7 +86,7 @@ told-settledIn (some e) at ps = refl
 -- ---- an event that a call found is the one that the rule found
 
 found-some : {E : Type 0} (o : Option E) (u : ℕ) (p : Settled E) → found o u ≡ some p → (o ≡ some (p .event)) × (u ≡ p .used)
-found-some none u p h = let z : _≡_ {A = ℕ} 0 1 = cc in absurd (omega arith)
+found-some none u p h = zero-is-one cc
 found-some (some e) u p h = (cc, cc)
 
 -- what a call found, and what the bytes after it come to, is what the rule finds, and goes on to find

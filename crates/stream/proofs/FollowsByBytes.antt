@@ -7,13 +7,14 @@ use mathlib.Core.List.{List, [], _∷_, cons≢nil}
 use lib.ListN.{length}
 use native.Mathlib.Nat.{zero-add}
 use native.Mathlib.Omega.{arith}
+use Rattle.numbers.proofs.Alike.{zero-is-one}
 use Rattle.stream.specs.Pieces.{Moved, Called, before, settle, scan}
 use Rattle.stream.specs.Rule.{Settled}
 use Rattle.stream.proofs.CallsComeTo.{after, events, Quiet}
 use Rattle.stream.proofs.FamilyFacts.{found, Follows}
 
 none-some : {A : Type 0} {E : Type 0} {e : E} → _≡_ {A = Option E} none (some e) → A
-none-some h = let z : _≡_ {A = ℕ} 0 1 = cc in absurd (omega arith)
+none-some h = zero-is-one cc
 
 module _ {S E : Type 0} (next : S → ℕ → Moved S E) (Rests : S → Type 0) where
   -- a call on bs in state s finds f, and after an event rests

@@ -9,6 +9,7 @@ use lib.Seq.{drop-cons}
 use native.Mathlib.Numerals.{add-one}
 use native.Mathlib.Nat.{zero-add, suc-add, add-suc, add-zero}
 use native.Mathlib.Omega.{arith}
+use Rattle.numbers.proofs.Alike.{zero-is-one}
 use Rattle.stream.specs.Pieces.{Moved, settle, scan, scanFrom}
 
 module _ {S E : Type 0} (next : S → ℕ → Moved S E) where
@@ -49,7 +50,7 @@ module _ {S E : Type 0} (next : S → ℕ → Moved S E) where
 
   settled-none : (o : Option E) (t : S) (bs : List ℕ) → (scan next t bs .event ≡ none → scan next t bs .used ≡ length bs) → settle o t (scan next t bs) .event ≡ none → settle o t (scan next t bs) .used ≡ suc (length bs)
   settled-none none t bs ih h = ap suc (ih h)
-  settled-none (some e) t bs ih h = let z : _≡_ {A = ℕ} 0 1 = cc in absurd (omega arith)
+  settled-none (some e) t bs ih h = zero-is-one cc
 
   pub scan-none : (s : S) (bs : List ℕ) → scan next s bs .event ≡ none → scan next s bs .used ≡ length bs
   scan-none s [] h = refl
@@ -62,5 +63,5 @@ module _ {S E : Type 0} (next : S → ℕ → Moved S E) where
   settled-front (some x) t w rest e ih h = refl
 
   pub scan-front : (s : S) (w rest : List ℕ) (e : E) → scan next s w .event ≡ some e → scan next s (w ++ rest) ≡ scan next s w
-  scan-front s [] rest e h = let z : _≡_ {A = ℕ} 0 1 = cc in absurd (omega arith)
+  scan-front s [] rest e h = zero-is-one cc
   scan-front s (b ∷ w) rest e h = settled-front (next s b .event) (next s b .state) w rest e (scan-front (next s b .state) w rest e) h

@@ -117,40 +117,40 @@ mark-there s e =
     (eqb-true (getD s 0 0) (getD mark 0 0) (one .0), eqb-true (getD s 1 0) (getD mark 1 0) (one .1), eqb-true (getD s 2 0) (getD mark 2 0) (two .1))
 
 -- the version's bytes, where the reader finds that version
-version-there : (high low version : ℕ) → version < 256 → version ≡ 256 * high + low → (high ≡ version / 256) × (low ≡ version % 256)
+version-there : (high low version : ℕ) → version < 256 → version ≡ high * 256 + low → (high ≡ version / 256) × (low ≡ version % 256)
 version-there high low version h e =
     let none : high ≡ 0 = omega arith in
     let all : low ≡ version = omega arith in
     (none ∙ sym (div-eq-of-lt h), all ∙ sym (mod-eq-of-lt h))
 
 module _ (s : List ℕ) (port count used : ℕ) (t : Tested s port count used) where
-  head-there : gets s 0 leadLength ≡ lead (versionOf port) port count
-  head-there =
+  lead-there : gets s 0 leadLength ≡ lead (versionOf port) port count
+  lead-there =
       let m = mark-there s (t .sound .begins) in
       let v = version-there (getD s 3 0) (getD s 4 0) (versionOf port) (version-small port) (t .carries) in
       simp (m .0, m .1, m .2, v .0, v .1, t .port-there, t .count-there)
 
-  -- the line that the packet carries, and what follows the packet
-  abbrev lineIn : List ℕ
-  lineIn = take count (drop leadLength s)
+  -- the piece that the packet carries, and what follows the packet
+  abbrev pieceIn : List ℕ
+  pieceIn = take count (drop leadLength s)
 
   abbrev restIn : List ℕ
   restIn = drop count (drop leadLength s)
 
-  line-length : length lineIn ≡ count
+  line-length : length pieceIn ≡ count
   line-length = length-take-le count (drop leadLength s) (simp length-drop (omega arith))
 
-  packet-there : s ≡ packet port lineIn ++ restIn
+  packet-there : s ≡ packet port pieceIn ++ restIn
   packet-there =
       gets-drop s 0 leadLength (t .sound .long)
-      ∙ ap (λ (h : List ℕ). h ++ drop leadLength s) (head-there ∙ ap (lead (versionOf port) port) (sym line-length))
-      ∙ ap (λ (r : List ℕ). lead (versionOf port) port (length lineIn) ++ r) (sym (take-append-drop count (drop leadLength s)))
+      ∙ ap (λ (h : List ℕ). h ++ drop leadLength s) (lead-there ∙ ap (lead (versionOf port) port) (sym line-length))
+      ∙ ap (λ (r : List ℕ). lead (versionOf port) port (length pieceIn) ++ r) (sym (take-append-drop count (drop leadLength s)))
 
   takes-there : takes port count ≡ true
   takes-there = simp (t .carries, t .sound .knows, t .counts)
 
   pub begins : Begins s port count used
-  begins = record { piece = lineIn; rest = restIn; bytes = packet-there; counts = line-length; taken = takes-there; uses = t .uses }
+  begins = record { piece = pieceIn; rest = restIn; bytes = packet-there; counts = line-length; taken = takes-there; uses = t .uses }
 
 -- ---- a packet that the writer takes, with anything after it, is read as what it is
 
@@ -160,9 +160,10 @@ unfolding packetAt marked carried
 reads-packet port piece rest t =
     let two = both (known (versionOf port)) (counted (length piece)) t in
     let long : leadLength + length piece ≤ length (packet port piece ++ rest) = simp length-append (omega arith) in
+    let whole : versionOf port / 256 * 256 + versionOf port % 256 ≡ versionOf port = omega (arith, div-add-mod (versionOf port) 256) in
     simp (
       le-leb leadLength (length (packet port piece ++ rest)) (omega arith),
-      div-add-mod (versionOf port) 256,
+      whole,
       two .0,
       two .1,
       eq-eqb (versionOf port) (versionOf port) refl,

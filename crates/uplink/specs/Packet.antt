@@ -52,7 +52,7 @@ unfoldable pub marked : List ℕ → Bool
 marked s = eqb (getD s 0 0) (getD mark 0 0) && eqb (getD s 1 0) (getD mark 1 0) && eqb (getD s 2 0) (getD mark 2 0)
 
 abbrev pub versionIn : List ℕ → ℕ
-versionIn s = 256 * getD s 3 0 + getD s 4 0
+versionIn s = getD s 3 0 * 256 + getD s 4 0
 
 abbrev pub portIn : List ℕ → ℕ
 portIn s = getD s 5 0

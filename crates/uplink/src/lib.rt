@@ -1,6 +1,8 @@
 // The uplink packet: the mark `SBR`, the version, the port, the count, and that many line bytes.
 use answers::Refusal;
 use answers::Written;
+use numbers::wide;
+use numbers::word;
 ghost use mathlib.Core.Path.{_≡_};
 ghost use Prim.Native.Nat.{_+_, _*_, _≤_};
 ghost use lib.ListN.{length};
@@ -51,20 +53,6 @@ fn marked(s: &[u8]) -> bool
     ensures { λ r. ⌜ r ≡ marked (now (s .entry)) ⌝ }
 {
     (s[0] == MARK[0]) & (s[1] == MARK[1]) & (s[2] == MARK[2])
-}
-
-// Two bytes as one number, high byte first.
-fn word(high: u8, low: u8) -> u16
-    ensures { λ r. ⌜ r ≡ 256 * high + low ⌝ }
-{
-    256 * (high as u16) + low as u16
-}
-
-// A byte as a length.
-fn wide(byte: u8) -> usize
-    ensures { λ r. ⌜ r ≡ byte ⌝ }
-{
-    byte as usize
 }
 
 // Reads the packet at the front of `s`, and copies nothing. That line bytes are missing is the last test, so that a wrong

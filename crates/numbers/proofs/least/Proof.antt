@@ -1,8 +1,8 @@
--- `comlynx_checksum::least` meets its contract, on either side of its test.
+-- `numbers::least` meets its contract, on either side of its test.
 -- Assumes nothing.
 use borrow.Author.Needs.{needs}
-use Rattle.comlynx_checksum.proofs.least.Statement.{statement}
-use Rattle.comlynx_checksum.proofs.least.Tie as tie
+use Rattle.numbers.proofs.least.Statement.{statement}
+use Rattle.numbers.proofs.least.Tie as tie
 
 returns : tie.Need-returns
 returns c = search needs
