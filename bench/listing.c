@@ -2,21 +2,6 @@
  * its state in a struct; input and output through buffers of 64 KiB, and a packet's bytes read where they lie. */
 #include "host.h"
 
-/* document 01's answer numbers */
-enum {
-    BROKEN_PAIR = 2,
-    WRONG_LENGTH = 3,
-    WRONG_START = 4,
-    WRONG_SIZE = 5,
-    WRONG_SUM = 6,
-    WRONG_COUNT = 7,
-    NO_MARK = 10,
-    WRONG_VERSION = 11,
-    WRONG_PORT = 12,
-    BYTES_MISSING = 13,
-    TOO_MANY_PACKETS = 19
-};
-
 enum { BUFFER = 65536, PACKETS = 65536, HEAD = 7, LINE_MAX = 240 };
 
 /* ---- output: a buffer, and what was counted */
@@ -152,7 +137,7 @@ static int comlynx_judge(const struct comlynx *r)
     const u8 *s = r->held;
     size n = r->count;
     if (n < CL_HEADER + 2 || CL_BODY < n)
-        return WRONG_LENGTH;
+        return WRONG_BODY_LENGTH;
     if (s[0] != 0xff || s[1] != 0x03)
         return WRONG_START;
     if (s[6] != n - CL_HEADER - 2)
@@ -307,7 +292,7 @@ static void fronius_take(struct fronius *r, const u8 *line, size n, struct listi
                 r->whole = (size)(FR_HEADER + b + 1);
             } else if (b > 0x80) {
                 r->count = 0;
-                damage(l, '3', WRONG_COUNT);
+                damage(l, '3', WRONG_LENGTH_BYTE);
             }
             break;
         default:
@@ -335,11 +320,11 @@ static int refusal(const u8 *s, size n)
     if (n < HEAD)
         return BYTES_MISSING;
     if (s[0] != 'S' || s[1] != 'B' || s[2] != 'R')
-        return NO_MARK;
+        return WRONG_MARK;
     if (s[3] != 0 || s[4] != 1)
         return WRONG_VERSION;
     if (s[5] < 1 || 3 < s[5] || s[6] < 1 || LINE_MAX < s[6])
-        return WRONG_PORT;
+        return WRONG_PORT_OR_COUNT;
     if (n - HEAD < s[6])
         return BYTES_MISSING;
     return 0;

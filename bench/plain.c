@@ -3,20 +3,6 @@
  * may put a reader into its host's loop, as it may in `pace_reading`. */
 #include "host.h"
 
-/* document 01's answer numbers */
-enum {
-    DONE = 0,
-    MESSAGE = 1,
-    BROKEN_PAIR = 2,
-    WRONG_LENGTH = 3,
-    WRONG_START = 4,
-    WRONG_SIZE = 5,
-    WRONG_SUM = 6,
-    WRONG_COUNT = 7,
-    NO_ROOM = 9,
-    SPOILT = 18
-};
-
 enum { LENT = 255, INPUT = 65536 };
 
 /* ---- ComLynx */
@@ -53,7 +39,7 @@ static int comlynx_judge(const struct comlynx *r, u8 *lent, struct comlynx_heade
     const u8 *s = r->held;
     size n = r->count;
     if (n < CL_HEADER + 2 || CL_BODY < n)
-        return WRONG_LENGTH;
+        return WRONG_BODY_LENGTH;
     if (s[0] != 0xff || s[1] != 0x03)
         return WRONG_START;
     if (s[6] != n - CL_HEADER - 2)
@@ -285,7 +271,7 @@ static int fronius_step(struct fronius *r, const u8 *piece, size n, u8 *lent, si
             } else if (b > 0x80) {
                 r->count = 0;
                 *used = i + 1;
-                return WRONG_COUNT;
+                return WRONG_LENGTH_BYTE;
             }
             break;
         default:
@@ -342,7 +328,7 @@ static size checked(size check, u8 code, const u8 *data, size n)
             if (answer == MESSAGE) {                                                                       \
                 t.messages++;                                                                              \
                 t.check = checked(t.check, h.code, lent, h.len);                                           \
-            } else if (answer > WRONG_COUNT) {                                                             \
+            } else if (answer > WRONG_LENGTH_BYTE) {                                                       \
                 break;                                                                                     \
             } else if (answer != DONE) {                                                                   \
                 t.damages++;                                                                               \

@@ -3,9 +3,6 @@
  * what it writes. */
 #include "host.h"
 
-/* document 01's answer numbers */
-enum { FULL = 14, UNFIT = 17, SPOILT = 18 };
-
 enum { SERIAL = 16, PLACE = 1 + SERIAL, PLACES = 254, ROSTER = PLACES * PLACE };
 enum { FREE = 0, USED = 1 };
 
@@ -54,12 +51,12 @@ static int give(u8 *roster, size n, const u8 *serial, size m)
     if (!sound(roster, n))
         return -SPOILT;
     if (m != SERIAL)
-        return -UNFIT;
+        return -NOT_FOR_THIS_CALL;
     size k = user(roster, 0, serial);
     if (k == PLACES) {
         k = lowest_free(roster);
         if (k == PLACES)
-            return -FULL;
+            return -ROSTER_FULL;
         roster[k * PLACE] = USED;
         memcpy(roster + k * PLACE + 1, serial, SERIAL);
     }

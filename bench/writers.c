@@ -2,9 +2,6 @@
  * writes what it writes. */
 #include "host.h"
 
-/* document 01's answer numbers */
-enum { TOO_LONG = 8, NO_ROOM = 9 };
-
 /* the length written, or the answer number where it is refused */
 struct written {
     size length;

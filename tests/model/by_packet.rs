@@ -8,7 +8,7 @@ use crate::LEAST_LENT_TO_A_READER;
 
 /// "`sbrlist` has read 65,536 packets and more input follows": 19.
 pub const MOST_PACKETS: u64 = 65_536;
-/// "count 1 to 240": a packet has no more line bytes, so it settles no more lines.
+/// "count 1 to 240": a packet's piece has no more bytes, so it settles no more lines.
 const MOST_LINES_OF_A_PACKET: u64 = 240;
 pub const LEAST_LENT: usize = 8192;
 
@@ -56,7 +56,7 @@ pub fn next(listing: &mut Listing, ended: bool, input: &[u8], lent: &mut [u8]) -
         return refused(number::SPOILT);
     }
     if lent.len() < LEAST_LENT {
-        return refused(number::ROOM);
+        return refused(number::NO_ROOM);
     }
     // "Input that ends where a packet would begin is no refusal".
     if input.is_empty() {
@@ -87,15 +87,15 @@ fn the_end(listing: &Listing, stop: Option<u8>, lent: &mut [u8]) -> Step {
     step(THE_END, 0, &text, lent)
 }
 
-/// The packet's line bytes go to its port's reader, "called on until it is used up"; "one line
+/// The packet's piece goes to its port's reader, "called on until it is used up"; "one line
 /// for each message or damage".
 fn take(listing: &mut Listing, packet: &Packet, input: &[u8], lent: &mut [u8]) -> Step {
     let port = packet.port;
     let mut piece = &input[packet.used - usize::from(packet.count)..packet.used];
     let mut text = String::new();
     loop {
-        let mut data = [0; LEAST_LENT_TO_A_READER];
-        let reading = ports::read(&mut listing.ports, port, piece, &mut data);
+        let mut payload = [0; LEAST_LENT_TO_A_READER];
+        let reading = ports::read(&mut listing.ports, port, piece, &mut payload);
         piece = &piece[reading.used..];
         match (reading.number, reading.message) {
             (number::DONE, _) => break,

@@ -1,4 +1,4 @@
-//! Calls of `probe`: sweeps over every limit, and random ones.
+//! Calls of `test_probe`: sweeps over every limit, and random ones.
 
 use crate::listing_calls::{
     line_sweep, listing_chain, listing_sweep, longest_call, port_chain, port_sweep, random_line,
@@ -6,7 +6,7 @@ use crate::listing_calls::{
 };
 use crate::random::Random;
 use crate::streams::{self, Family, FAMILIES};
-use right::{packet, probe};
+use right::{number, packet, probe};
 
 /// The generator of a session's last call, where that one has no result.
 pub const ENDS_EARLY: &str = "session that ends early";
@@ -160,7 +160,7 @@ fn reader_chain(family: Family, random: &mut Random, calls: &mut Vec<Call>) {
             calls.push(call);
             state = next;
             piece = &piece[used..];
-            if number == 0 {
+            if number == number::DONE {
                 break;
             }
         }
@@ -210,8 +210,8 @@ pub fn state_on_the_way(shape: Shape, random: &mut Random) -> (Vec<u8>, Vec<u8>)
         spoil_a_number(shape, &mut state, random);
     }
     if random.one_in(3) {
-        let place = random.below(shape.held);
-        state[place] = random.special();
+        let position = random.below(shape.held);
+        state[position] = random.special();
     }
     let mut piece = second.to_vec();
     if random.one_in(3) {
@@ -222,8 +222,8 @@ pub fn state_on_the_way(shape: Shape, random: &mut Random) -> (Vec<u8>, Vec<u8>)
 
 /// The stage, the count or the length by one or two more or less.
 fn spoil_a_number(shape: Shape, state: &mut [u8], random: &mut Random) {
-    let place = random.pick(&[0, 1, 1, 2, 3, 3]).min(shape.state - shape.held - 1);
-    let byte = &mut state[shape.held + place];
+    let offset = random.pick(&[0, 1, 1, 2, 3, 3]).min(shape.state - shape.held - 1);
+    let byte = &mut state[shape.held + offset];
     *byte = byte.wrapping_add(random.pick(&[1, 1, 2, 254, 255, 255]));
 }
 
@@ -250,7 +250,7 @@ pub fn grid_calls(family: Family, random: &mut Random) -> Vec<Call> {
 
 fn calls_on_a_state(shape: Shape, state: &[u8], random: &mut Random, calls: &mut Vec<Call>) {
     let empty_piece = reader_call(shape, state, &[], &[0; 255]).bytes;
-    let in_range = after(shape, &empty_piece).0 == 0;
+    let in_range = after(shape, &empty_piece).0 == number::DONE;
     let pieces = telling_pieces(shape.family);
     for &piece in if in_range { pieces } else { &pieces[1..2] } {
         let lent = random.bytes(255);
@@ -329,12 +329,12 @@ const STRETCHES: &str = "ComLynx reader, stretches with several things wrong";
 fn reader_lent_lengths(family: Family, random: &mut Random, calls: &mut Vec<Call>) {
     let shape = shape(family);
     for length in (0..=260).chain([532, 1000, 8192, 16_384]) {
-        let data = if length % 2 == 0 {
-            random.content(family.most_data())
+        let payload = if length % 2 == 0 {
+            random.content(family.most_payload())
         } else {
-            vec![0xFF; family.most_data()]
+            vec![0xFF; family.most_payload()]
         };
-        let frame = streams::frame_with(family, random, data);
+        let frame = streams::frame_with(family, random, payload);
         let lent = random.bytes(length);
         let state = fresh_state(shape);
         calls.push(reader_call(shape, &state, &frame, &lent).from(shape.lent));
@@ -345,18 +345,18 @@ fn reader_lent_lengths(family: Family, random: &mut Random, calls: &mut Vec<Call
 
 const WRITERS: [&str; 3] = ["ComLynx writer", "Eversolar writer", "Fronius writer"];
 
-fn writer_call(family: Family, head: &[u8], data: &[u8], lent: &[u8]) -> Call {
+fn writer_call(family: Family, lead: &[u8], payload: &[u8], lent: &[u8]) -> Call {
     let (making, generator) = match family {
-        Family::ComLynx => (op(0x11).raw(&head[..5]), WRITERS[0]),
-        Family::Eversolar => (op(0x12).raw(&head[..6]), WRITERS[1]),
-        Family::Fronius => (op(0x13).raw(&head[..3]), WRITERS[2]),
+        Family::ComLynx => (op(0x11).raw(&lead[..5]), WRITERS[0]),
+        Family::Eversolar => (op(0x12).raw(&lead[..6]), WRITERS[1]),
+        Family::Fronius => (op(0x13).raw(&lead[..3]), WRITERS[2]),
     };
-    making.list(data).list(lent).from(generator)
+    making.list(payload).list(lent).from(generator)
 }
 
 /// The exact length the call would write, or that of the longest frame where it refuses.
-fn exact_length(family: Family, head: &[u8], data: &[u8]) -> usize {
-    let call = writer_call(family, head, data, &[0; 600]);
+fn exact_length(family: Family, lead: &[u8], payload: &[u8]) -> usize {
+    let call = writer_call(family, lead, payload, &[0; 600]);
     let result = probe::answer(&call.bytes).expect("a whole call");
     match usize::from(result[1]) + 256 * usize::from(result[2]) {
         0 => 532,
@@ -364,9 +364,9 @@ fn exact_length(family: Family, head: &[u8], data: &[u8]) -> usize {
     }
 }
 
-fn writer_with_telling_room(family: Family, random: &mut Random, data: &[u8]) -> Call {
-    let head = random.specials(6);
-    let exact = exact_length(family, &head, data);
+fn writer_with_telling_room(family: Family, random: &mut Random, payload: &[u8]) -> Call {
+    let lead = random.specials(6);
+    let exact = exact_length(family, &lead, payload);
     let room = match random.below(6) {
         0 => exact - 1,
         1 => exact,
@@ -375,46 +375,46 @@ fn writer_with_telling_room(family: Family, random: &mut Random, data: &[u8]) ->
         4 => 0,
         _ => 532.max(exact),
     };
-    writer_call(family, &head, data, &random.bytes(room))
+    writer_call(family, &lead, payload, &random.bytes(room))
 }
 
 fn random_writer(family: Family, random: &mut Random) -> Call {
-    let mut length = streams::data_length(family, random);
+    let mut length = streams::payload_length(family, random);
     if random.one_in(8) {
-        length = family.most_data() + random.pick(&[0, 1, 2, 129, 16_129]);
+        length = family.most_payload() + random.pick(&[0, 1, 2, 129, 16_129]);
     }
-    let data = random.content(length);
-    writer_with_telling_room(family, random, &data)
+    let payload = random.content(length);
+    writer_with_telling_room(family, random, &payload)
 }
 
-/// Every data length past the limit, with telling rooms; one long frame with every room.
+/// Every payload length past the limit, with telling rooms; one long frame with every room.
 fn writer_sweep(family: Family, random: &mut Random, calls: &mut Vec<Call>) {
-    for length in 0..=family.most_data() + 3 {
-        let (head, data) = (random.specials(6), random.content(length));
-        let exact = exact_length(family, &head, &data);
+    for length in 0..=family.most_payload() + 3 {
+        let (lead, payload) = (random.specials(6), random.content(length));
+        let exact = exact_length(family, &lead, &payload);
         for room in [exact - 1, exact, exact + 1] {
-            calls.push(writer_call(family, &head, &data, &random.bytes(room)));
+            calls.push(writer_call(family, &lead, &payload, &random.bytes(room)));
         }
     }
-    let longest = vec![0x7E; family.most_data()];
+    let longest = vec![0x7E; family.most_payload()];
     let most_room = exact_length(family, &[0x7E; 6], &longest) + 4;
     for room in 0..=most_room {
         calls.push(writer_call(family, &[0x7E; 6], &longest, &random.bytes(room)));
     }
-    for length in family.most_data() - 3..=family.most_data() {
+    for length in family.most_payload() - 3..=family.most_payload() {
         let heaviest = vec![0xFF; length];
         calls.push(writer_call(family, &[0xFF; 6], &heaviest, &random.bytes(600)));
     }
     for room in [0, 265, 532, 600] {
-        let too_long = vec![0; family.most_data() + 1];
+        let too_long = vec![0; family.most_payload() + 1];
         calls.push(writer_call(family, &[0; 6], &too_long, &random.bytes(room)));
     }
 }
 
 // ---- meaning and addresses ----
 
-fn meaning_call(kind: u8, data: &[u8]) -> Call {
-    op(0x21).b(kind).list(data).from("meaning of a type byte")
+fn meaning_call(kind: u8, payload: &[u8]) -> Call {
+    op(0x21).b(kind).list(payload).from("meaning of a type byte")
 }
 
 fn meaning_sweep(random: &mut Random, calls: &mut Vec<Call>) {
@@ -439,9 +439,9 @@ fn word_call(network: u8, subnet: u8, node: u8) -> Call {
 }
 
 fn address_sweep(random: &mut Random, calls: &mut Vec<Call>) {
-    for place in 0..16 {
-        calls.push(address_call(1 << place));
-        calls.push(address_call(0xFFFF ^ 1 << place));
+    for bit in 0..16 {
+        calls.push(address_call(1 << bit));
+        calls.push(address_call(0xFFFF ^ 1 << bit));
     }
     for network in (0..=17).chain([128, 255]) {
         for subnet in [0, 1, 14, 15, 16, 17, 255] {
@@ -517,19 +517,19 @@ fn random_request(random: &mut Random) -> Call {
     }
 }
 
-fn energy_call(control: u8, function: u8, data: &[u8]) -> Call {
-    op(0x34).b(control).b(function).list(data).from("total energy")
+fn energy_call(control: u8, function: u8, payload: &[u8]) -> Call {
+    op(0x34).b(control).b(function).list(payload).from("total energy")
 }
 
 fn energy_sweep(random: &mut Random, calls: &mut Vec<Call>) {
     for length in (0..=50).chain([254, 255, 256]) {
-        let data = random.bytes(length);
-        calls.push(energy_call(0x11, 0x90, &data));
+        let payload = random.bytes(length);
+        calls.push(energy_call(0x11, 0x90, &payload));
     }
     for byte in 0..=255 {
-        let data = random.bytes(44);
-        calls.push(energy_call(byte, 0x90, &data));
-        calls.push(energy_call(0x11, byte, &data));
+        let payload = random.bytes(44);
+        calls.push(energy_call(byte, 0x90, &payload));
+        calls.push(energy_call(0x11, byte, &payload));
     }
 }
 
@@ -561,12 +561,12 @@ fn random_wait(random: &mut Random) -> Call {
 
 // ---- Fronius values ----
 
-fn value_call(signed: bool, data: &[u8]) -> Call {
-    op(0x41).b(u8::from(signed)).list(data).from("measured value")
+fn value_call(signed: bool, payload: &[u8]) -> Call {
+    op(0x41).b(u8::from(signed)).list(payload).from("measured value")
 }
 
-fn reading_call(device: u8, command: u8, data: &[u8]) -> Call {
-    op(0x42).b(device).b(command).list(data).from("reading")
+fn reading_call(device: u8, command: u8, payload: &[u8]) -> Call {
+    op(0x42).b(device).b(command).list(payload).from("reading")
 }
 
 const VALUES: [[u8; 2]; 8] = [
@@ -609,15 +609,15 @@ fn value_sweep(random: &mut Random, calls: &mut Vec<Call>) {
 
 fn random_value(random: &mut Random) -> Call {
     let length = random.pick(&[3, 3, 3, 3, 3, 3, 2, 4, 0]);
-    let mut data = random.bytes(length);
+    let mut payload = random.bytes(length);
     if length == 3 && !random.one_in(8) {
-        data[2] = random.pick(&[0xFC, 0xFD, 0xFE, 0xFF, 0, 1, 2, 3, 4, 5, 6, 7, 8, 9, 10, 11]);
+        payload[2] = random.pick(&[0xFC, 0xFD, 0xFE, 0xFF, 0, 1, 2, 3, 4, 5, 6, 7, 8, 9, 10, 11]);
     }
     if random.one_in(3) {
-        return value_call(random.one_in(2), &data);
+        return value_call(random.one_in(2), &payload);
     }
     let device = random.pick(&[1, 1, 1, 1, 1, 0, 2]);
-    reading_call(device, random.between(0x0F, 0x2F) as u8, &data)
+    reading_call(device, random.between(0x0F, 0x2F) as u8, &payload)
 }
 
 // ---- roster ----
@@ -810,16 +810,16 @@ fn packet_call(bytes: &[u8]) -> Call {
     op(0x61).list(bytes).from("packet reader")
 }
 
-fn packet_write_call(port: u8, line: &[u8], lent: &[u8]) -> Call {
-    op(0x62).b(port).list(line).list(lent).from("packet writer")
+fn packet_write_call(port: u8, piece: &[u8], lent: &[u8]) -> Call {
+    op(0x62).b(port).list(piece).list(lent).from("packet writer")
 }
 
 /// A packet of 27 bytes, wrong where a bit of `wrong` says so: mark, version, port, count.
-pub fn head_with(wrong: u8, random: &mut Random) -> Vec<u8> {
+pub fn lead_with(wrong: u8, random: &mut Random) -> Vec<u8> {
     let mut packet = packet::packet(1, &random.bytes(20));
-    for (bit, place, value) in [(0, 2, b'S'), (1, 4, 2), (2, 5, 4), (3, 6, 241)] {
+    for (bit, position, value) in [(0, 2, b'S'), (1, 4, 2), (2, 5, 4), (3, 6, 241)] {
         if wrong >> bit & 1 == 1 {
-            packet[place] = value;
+            packet[position] = value;
         }
     }
     packet
@@ -830,25 +830,25 @@ fn packet_sweep(random: &mut Random, calls: &mut Vec<Call>) {
     for length in 0..=whole.len() {
         calls.push(packet_call(&whole[..length]));
     }
-    for place in 0..7 {
+    for position in 0..7 {
         for value in [0, 1, 2, 3, 4, 0x42, 0x52, 0x53, 240, 241, 255] {
             for length in [6, 7, 8, 10, 247, 300] {
                 let mut packet = [packet::packet(1, &[9]), vec![9; 300]].concat();
-                packet[place] = value;
+                packet[position] = value;
                 calls.push(packet_call(&packet[..length]));
             }
         }
     }
     for wrong in 0..16 {
         for length in [6, 7, 26, 27] {
-            calls.push(packet_call(&head_with(wrong, random)[..length]));
+            calls.push(packet_call(&lead_with(wrong, random)[..length]));
         }
     }
     for port in [0, 1, 2, 3, 4, 255] {
         for length in [0, 1, 2, 239, 240, 241, 255, 256, 257, 300] {
             for room in [0, length + 6, length + 7, length + 8] {
-                let (line, lent) = (random.content(length), random.bytes(room));
-                calls.push(packet_write_call(port, &line, &lent));
+                let (piece, lent) = (random.content(length), random.bytes(room));
+                calls.push(packet_write_call(port, &piece, &lent));
             }
         }
     }
@@ -856,14 +856,14 @@ fn packet_sweep(random: &mut Random, calls: &mut Vec<Call>) {
 
 fn random_packet(random: &mut Random) -> Call {
     let length = random.pick(&[1, 2, 3, 50, 239, 240]);
-    let line = random.content(length);
+    let piece = random.content(length);
     if random.one_in(3) {
         let room = length + random.pick(&[0, 6, 7, 8, 100]);
-        return packet_write_call(random.below(5) as u8, &line, &random.bytes(room));
+        return packet_write_call(random.below(5) as u8, &piece, &random.bytes(room));
     }
-    let mut packet = packet::packet(random.between(1, 3) as u8, &line);
+    let mut packet = packet::packet(random.between(1, 3) as u8, &piece);
     for _ in 0..random.below(3) {
-        streams::spoil_a_head(&mut packet, random);
+        streams::spoil_a_lead(&mut packet, random);
     }
     match random.below(3) {
         0 => packet.truncate(random.between(0, packet.len())),

@@ -2,13 +2,13 @@
 
 use crate::checksum;
 use crate::number;
-use crate::{hand_over, not_written, one_call, Data, Event, Outcome, Reading, Written};
+use crate::{hand_over, not_written, one_call, Event, Outcome, Payload, Reading, Written};
 
 pub const FLAG: u8 = 0x7E;
 pub const ESCAPE: u8 = 0x7D;
 pub const FLAG_STUFFED: u8 = 0x5E;
 pub const ESCAPE_STUFFED: u8 = 0x5D;
-pub const MOST_DATA: usize = 255;
+pub const MOST_PAYLOAD: usize = 255;
 /// "so a body has 10 to 265 bytes".
 pub const SHORTEST_BODY: usize = 10;
 pub const LONGEST_BODY: usize = 265;
@@ -18,12 +18,12 @@ pub struct Message {
     pub source: u16,
     pub destination: u16,
     pub kind: u8,
-    pub data: Vec<u8>,
+    pub payload: Vec<u8>,
 }
 
-impl Data for Message {
-    fn data(&self) -> &[u8] {
-        &self.data
+impl Payload for Message {
+    fn payload(&self) -> &[u8] {
+        &self.payload
     }
 }
 
@@ -35,9 +35,9 @@ pub fn body(message: &Message) -> Vec<u8> {
     let mut body = vec![0xFF, 0x03];
     body.extend(message.source.to_be_bytes());
     body.extend(message.destination.to_be_bytes());
-    body.push(message.data.len() as u8);
+    body.push(message.payload.len() as u8);
     body.push(message.kind);
-    body.extend(&message.data);
+    body.extend(&message.payload);
     with_checksum(body)
 }
 
@@ -71,8 +71,8 @@ pub fn frame(message: &Message) -> Vec<u8> {
 
 /// "Writers test 8, then 9".
 pub fn write(message: &Message, lent: &mut [u8]) -> Written {
-    if message.data.len() > MOST_DATA {
-        return not_written(number::DATA_TOO_LONG);
+    if message.payload.len() > MOST_PAYLOAD {
+        return not_written(number::TOO_LONG);
     }
     hand_over(&frame(message), lent)
 }
@@ -82,13 +82,13 @@ pub fn write(message: &Message, lent: &mut [u8]) -> Written {
 /// "bytes before the first 7E are ignored. Each stretch between two successive 7E is
 /// judged at the second one, which also opens the next stretch."
 pub fn events(stream: &[u8]) -> Vec<Event<Message>> {
-    let flags = places_of_flags(stream);
+    let flags = positions_of_flags(stream);
     let stretches = flags.windows(2);
     stretches.filter_map(|pair| event_of_stretch(stream, pair[0], pair[1])).collect()
 }
 
-fn places_of_flags(stream: &[u8]) -> Vec<usize> {
-    (0..stream.len()).filter(|&place| stream[place] == FLAG).collect()
+fn positions_of_flags(stream: &[u8]) -> Vec<usize> {
+    (0..stream.len()).filter(|&position| stream[position] == FLAG).collect()
 }
 
 fn event_of_stretch(stream: &[u8], opening: usize, closing: usize) -> Option<Event<Message>> {
@@ -134,13 +134,13 @@ fn stands_for(mate: u8) -> Option<u8> {
 /// its length less 10, else 5; the checksum agrees, else 6."
 fn judge_body(body: &[u8]) -> Outcome<Message> {
     if body.len() < SHORTEST_BODY || body.len() > LONGEST_BODY {
-        return Err(number::BODY_LENGTH);
+        return Err(number::WRONG_BODY_LENGTH);
     }
     if body[0] != 0xFF || body[1] != 0x03 {
-        return Err(number::BODY_BEGINNING);
+        return Err(number::WRONG_START);
     }
     if usize::from(body[6]) != body.len() - 10 {
-        return Err(number::BODY_SIZE);
+        return Err(number::WRONG_SIZE);
     }
     if !checksum_agrees(body) {
         return Err(number::WRONG_SUM);
@@ -158,7 +158,7 @@ fn message_of(body: &[u8]) -> Message {
         source: word_high_first(body[2], body[3]),
         destination: word_high_first(body[4], body[5]),
         kind: body[7],
-        data: body[8..body.len() - 2].to_vec(),
+        payload: body[8..body.len() - 2].to_vec(),
     }
 }
 
@@ -220,7 +220,7 @@ fn judge_at_a_flag(state: &State) -> Option<Outcome<Message>> {
     match state.stage {
         BEFORE_A_FLAG => None,
         IN_A_STRETCH if state.count == 0 => None,
-        IN_A_STRETCH if state.count == OVERFULL => Some(Err(number::BODY_LENGTH)),
+        IN_A_STRETCH if state.count == OVERFULL => Some(Err(number::WRONG_BODY_LENGTH)),
         IN_A_STRETCH => Some(judge_body(&state.held[..usize::from(state.count)])),
         _ => Some(Err(number::BROKEN_PAIR)),
     }
@@ -269,7 +269,7 @@ pub struct Meaning {
 /// "bits 0 to 4 are the id; bit 7 marks a reply; bit 6 a transmission error, bit 5 an
 /// application error": 17 "for an error bit in a request, both error bits, or an error
 /// reply whose data is not one byte".
-pub fn meaning(kind: u8, data: &[u8]) -> Result<Meaning, u8> {
+pub fn meaning(kind: u8, payload: &[u8]) -> Result<Meaning, u8> {
     let id = kind % 32;
     let reply = bit(kind, 7);
     let transmission_error = bit(kind, 6);
@@ -277,20 +277,20 @@ pub fn meaning(kind: u8, data: &[u8]) -> Result<Meaning, u8> {
     match (reply, transmission_error, application_error) {
         (false, false, false) => Ok(Meaning { kind: REQUEST, id, code: 0 }),
         (true, false, false) => Ok(Meaning { kind: REPLY, id, code: 0 }),
-        (true, true, false) => error_reply(TRANSMISSION_ERROR, id, data),
-        (true, false, true) => error_reply(APPLICATION_ERROR, id, data),
-        _ => Err(number::WRONG_FORM),
+        (true, true, false) => error_reply(TRANSMISSION_ERROR, id, payload),
+        (true, false, true) => error_reply(APPLICATION_ERROR, id, payload),
+        _ => Err(number::NOT_FOR_THIS_CALL),
     }
 }
 
-fn bit(byte: u8, place: u32) -> bool {
-    byte >> place & 1 == 1
+fn bit(byte: u8, position: u32) -> bool {
+    byte >> position & 1 == 1
 }
 
-fn error_reply(kind: u8, id: u8, data: &[u8]) -> Result<Meaning, u8> {
-    match data {
+fn error_reply(kind: u8, id: u8, payload: &[u8]) -> Result<Meaning, u8> {
+    match payload {
         [code] => Ok(Meaning { kind, id, code: *code }),
-        _ => Err(number::WRONG_FORM),
+        _ => Err(number::NOT_FOR_THIS_CALL),
     }
 }
 
@@ -305,7 +305,7 @@ pub fn address_of(word: u16) -> [u8; 3] {
 /// A network or a subnet above 15 has no four bits: 16.
 pub fn word_of(network: u8, subnet: u8, node: u8) -> Result<u16, u8> {
     if network > 15 || subnet > 15 {
-        return Err(number::OUT_OF_RANGE);
+        return Err(number::WRONG_ADDRESS_OR_EXPONENT_TOO_LOW);
     }
     Ok(u16::from(network) * 4096 + u16::from(subnet) * 256 + u16::from(node))
 }

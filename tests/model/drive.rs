@@ -17,7 +17,7 @@ use std::process::ExitCode;
 use std::sync::atomic::{AtomicBool, AtomicUsize, Ordering};
 use std::sync::Mutex;
 
-/// The model that is compared: a session of `probe` and a run of `sbrlist`.
+/// The model that is compared: a session of `test_probe` and a run of `sbrlist`.
 #[derive(Clone, Copy)]
 pub struct Model {
     pub session: fn(&[u8]) -> Vec<u8>,
@@ -52,7 +52,7 @@ enum Job {
 /// What a run was asked for.
 struct Run {
     model: Model,
-    probe: Program,
+    test_probe: Program,
     sbrlist: Program,
     seed: u64,
     at_once: usize,
@@ -96,7 +96,7 @@ pub fn run(model: Model, arguments: impl Iterator<Item = String>) -> ExitCode {
 fn asked_for(model: Model, mut arguments: impl Iterator<Item = String>) -> Result<Run, String> {
     let mut run = Run {
         model,
-        probe: Program::of_environment("PROBE", "bin/test_probe"),
+        test_probe: Program::of_environment("PROBE", "bin/test_probe"),
         sbrlist: Program::of_environment("SBRLIST", "bin/sbrlist"),
         seed: 1,
         at_once: 2,
@@ -108,7 +108,7 @@ fn asked_for(model: Model, mut arguments: impl Iterator<Item = String>) -> Resul
             "--long" => run.amount = LONG,
             "--seed" => run.seed = seed_of(arguments.next())?,
             "--against-model" => {
-                run.probe = Program::Model(right::probe::session);
+                run.test_probe = Program::Model(right::probe::session);
                 run.sbrlist = Program::Model(right::listing::listing);
                 run.at_once = 1;
             }
@@ -145,7 +145,7 @@ fn jobs(run: &Run, sweeps: usize) -> Vec<Job> {
     let two_ways = (0..4).map(Job::TwoWays);
     let known: Vec<Job> =
         [Job::KnownCalls, Job::KnownListings].into_iter().chain(two_ways).collect();
-    let mut jobs = match run.probe {
+    let mut jobs = match run.test_probe {
         Program::Model(_) => [jobs, known].concat(),
         Program::Command(_) => [known, jobs].concat(),
     };
@@ -253,7 +253,7 @@ fn two_ways(run: &Run, which: usize) -> Result<(), String> {
     })
 }
 
-// ---- sessions of probe ----
+// ---- sessions of test_probe ----
 
 /// The model on an input; a model that stops is no agreement.
 fn model_output(model: fn(&[u8]) -> Vec<u8>, input: &[u8]) -> Result<Vec<u8>, String> {
@@ -277,28 +277,28 @@ fn results_of(mut output: &[u8]) -> (Vec<&[u8]>, &[u8]) {
 
 fn compare_session(run: &Run, case: &str, calls: &[Call], counts: &Counts) -> Result<(), String> {
     let input: Vec<u8> = calls.iter().flat_map(|call| call.bytes.iter().copied()).collect();
-    let place = |call: usize| {
+    let label = |call: usize| {
         let generator = calls.get(call).map_or("beyond the last call", |call| call.generator);
         format!("case {case} call {call}, generator \"{generator}\"")
     };
     let expected = model_output(run.model.session, &input)
         .map_err(|wrong| model_stopped(run, case, calls, &wrong))?;
-    let given = run.probe.output(&input).map_err(|wrong| format!("{}: {wrong}", place(0)))?;
+    let given = run.test_probe.output(&input).map_err(|wrong| format!("{}: {wrong}", label(0)))?;
     let ((expected, _), (given, rest)) = (results_of(&expected), results_of(&given));
     let answered = calls.iter().filter(|call| call.generator != calls::ENDS_EARLY).count();
     if expected.len() != answered {
-        return Err(format!("{}: the model has no result", place(expected.len())));
+        return Err(format!("{}: the model has no result", label(expected.len())));
     }
     for call in 0..expected.len().max(given.len()) {
         if expected.get(call) != given.get(call) {
             let bytes = calls.get(call).map_or(&[][..], |call| &call.bytes);
             let report = both_results(bytes, expected.get(call), given.get(call));
-            return Err(format!("{}\n{report}", place(call)));
+            return Err(format!("{}\n{report}", label(call)));
         }
         counts.calls.fetch_add(1, Ordering::Relaxed);
     }
     if !rest.is_empty() {
-        return Err(format!("{}: an unfinished result: {}", place(given.len()), fields::hex(rest)));
+        return Err(format!("{}: an unfinished result: {}", label(given.len()), fields::hex(rest)));
     }
     Ok(())
 }
@@ -332,7 +332,7 @@ fn known_calls(run: &Run, counts: &Counts) -> Result<(), String> {
         let expected = right::probe::as_list(&known.result);
         let sides = [
             ("model", model_output(run.model.session, &known.call)),
-            ("program", run.probe.output(&known.call)),
+            ("program", run.test_probe.output(&known.call)),
         ];
         for (side, given) in sides {
             if given.as_ref() != Ok(&expected) {
@@ -358,12 +358,12 @@ fn compare_listing(
     input: &[u8],
     counts: &Counts,
 ) -> Result<(), String> {
-    let place = format!("case {case}, generator \"{generator}\"");
+    let label = format!("case {case}, generator \"{generator}\"");
     let expected =
-        model_output(run.model.listing, input).map_err(|wrong| format!("{place}: {wrong}"))?;
-    let given = run.sbrlist.output(input).map_err(|wrong| format!("{place}: {wrong}"))?;
+        model_output(run.model.listing, input).map_err(|wrong| format!("{label}: {wrong}"))?;
+    let given = run.sbrlist.output(input).map_err(|wrong| format!("{label}: {wrong}"))?;
     if expected != given {
-        return Err(format!("{place}\n{}", both_listings(input, &expected, &given)));
+        return Err(format!("{label}\n{}", both_listings(input, &expected, &given)));
     }
     counts.listings.fetch_add(1, Ordering::Relaxed);
     Ok(())

@@ -1,14 +1,14 @@
 //! "Eversolar on the wire", with the order of the words that document 02, Req 03, corrects.
 
 use crate::number;
-use crate::{hand_over, not_written, one_call, Data, Event, Outcome, Reading, Written};
+use crate::{hand_over, not_written, one_call, Event, Outcome, Payload, Reading, Written};
 
 pub const HEADER: [u8; 2] = [0xAA, 0x55];
-pub const MOST_DATA: usize = 255;
+pub const MOST_PAYLOAD: usize = 255;
 /// "The master is 01 00."
 pub const MASTER: [u8; 2] = [0x01, 0x00];
-/// Header, source, destination, control, function, length: "After 9 bytes, N is known".
-const BEFORE_THE_DATA: usize = 9;
+/// The lead: header, source, destination, control, function, length. "After 9 bytes, N is known".
+const LEAD_BYTES: usize = 9;
 
 /// "for Eversolar source and destination (two bytes each, as sent), control, function,
 /// 0 to 255 data bytes". As sent: an address is no word, and no order of words turns it.
@@ -17,12 +17,12 @@ pub struct Message {
     pub destination: [u8; 2],
     pub control: u8,
     pub function: u8,
-    pub data: Vec<u8>,
+    pub payload: Vec<u8>,
 }
 
-impl Data for Message {
-    fn data(&self) -> &[u8] {
-        &self.data
+impl Payload for Message {
+    fn payload(&self) -> &[u8] {
+        &self.payload
     }
 }
 
@@ -34,8 +34,8 @@ pub fn frame(message: &Message) -> Vec<u8> {
     frame.extend(message.source);
     frame.extend(message.destination);
     frame.extend([message.control, message.function]);
-    frame.push(message.data.len() as u8);
-    frame.extend(&message.data);
+    frame.push(message.payload.len() as u8);
+    frame.extend(&message.payload);
     let sum = sum_of(&frame);
     frame.extend(high_byte_first(sum));
     frame
@@ -58,8 +58,8 @@ pub fn word_of(first: u8, second: u8) -> u16 {
 
 /// "Writers test 8, then 9".
 pub fn write(message: &Message, lent: &mut [u8]) -> Written {
-    if message.data.len() > MOST_DATA {
-        return not_written(number::DATA_TOO_LONG);
+    if message.payload.len() > MOST_PAYLOAD {
+        return not_written(number::TOO_LONG);
     }
     hand_over(&frame(message), lent)
 }
@@ -80,14 +80,14 @@ pub fn events(stream: &[u8]) -> Vec<Event<Message>> {
 
 /// Where the next whole frame begins and ends; nothing where it is not all there yet.
 fn next_frame(stream: &[u8], from: usize) -> Option<(usize, usize)> {
-    let begin = from + place_of_header(&stream[from..])?;
-    let data_length = *stream.get(begin + BEFORE_THE_DATA - 1)?;
-    let end = begin + BEFORE_THE_DATA + usize::from(data_length) + 2;
+    let begin = from + position_of_header(&stream[from..])?;
+    let payload_length = *stream.get(begin + LEAD_BYTES - 1)?;
+    let end = begin + LEAD_BYTES + usize::from(payload_length) + 2;
     (end <= stream.len()).then_some((begin, end))
 }
 
-/// "the second of two AA may still open a header": every place is tried.
-fn place_of_header(stream: &[u8]) -> Option<usize> {
+/// "the second of two AA may still open a header": every position is tried.
+fn position_of_header(stream: &[u8]) -> Option<usize> {
     stream.windows(2).position(|pair| pair == HEADER)
 }
 
@@ -102,7 +102,7 @@ fn judge_frame(frame: &[u8]) -> Outcome<Message> {
         destination: [frame[4], frame[5]],
         control: frame[6],
         function: frame[7],
-        data: earlier[BEFORE_THE_DATA..].to_vec(),
+        payload: earlier[LEAD_BYTES..].to_vec(),
     })
 }
 
@@ -112,7 +112,7 @@ pub const MOST_HELD: usize = 263;
 
 const LOOKING: u8 = 0;
 const AA_SEEN: u8 = 1;
-const HEAD: u8 = 2;
+const LEAD: u8 = 2;
 const BODY: u8 = 3;
 
 #[derive(Clone)]
@@ -128,12 +128,12 @@ pub fn fresh() -> State {
     State { held: vec![0; MOST_HELD], stage: LOOKING, count: 0, length: 0 }
 }
 
-/// The ranges: looking or after an AA nothing; in the head 0 to 6 of seven bytes; in the body
-/// a data length of 0 to 255 and 7 to 8 plus that length held.
+/// The ranges: looking or after an AA nothing; in the lead 0 to 6 of seven bytes; in the body
+/// a payload length of 0 to 255 and 7 to 8 plus that length held.
 fn in_range(state: &State) -> bool {
     match state.stage {
         LOOKING | AA_SEEN => state.count == 0 && state.length == 0,
-        HEAD => state.count <= 6 && state.length == 0,
+        LEAD => state.count <= 6 && state.length == 0,
         BODY => state.length <= 255 && state.count >= 7 && state.count <= 8 + state.length,
         _ => false,
     }
@@ -146,7 +146,7 @@ pub fn read(state: &mut State, piece: &[u8], lent: &mut [u8]) -> Reading<Message
 fn take(state: &mut State, byte: u8) -> Option<Outcome<Message>> {
     match state.stage {
         LOOKING | AA_SEEN => look(state, byte),
-        HEAD => take_in_the_head(state, byte),
+        LEAD => take_in_the_lead(state, byte),
         _ if state.count == 8 + state.length => return Some(take_the_last(state, byte)),
         _ => hold(state, byte),
     }
@@ -155,14 +155,14 @@ fn take(state: &mut State, byte: u8) -> Option<Outcome<Message>> {
 
 fn look(state: &mut State, byte: u8) {
     state.stage = match (state.stage, byte) {
-        (AA_SEEN, 0x55) => HEAD,
+        (AA_SEEN, 0x55) => LEAD,
         (_, 0xAA) => AA_SEEN,
         _ => LOOKING,
     };
 }
 
-/// "After 9 bytes, N is known": AA 55 and the seven of the head.
-fn take_in_the_head(state: &mut State, byte: u8) {
+/// "After 9 bytes, N is known": AA 55 and the seven of the lead.
+fn take_in_the_lead(state: &mut State, byte: u8) {
     hold(state, byte);
     if state.count == 7 {
         state.stage = BODY;
@@ -195,8 +195,8 @@ fn start_afresh(state: &mut State) {
 // ---- requests ----
 
 /// "every source is the master"; "Only 10/01 carries data".
-fn request(destination: [u8; 2], control: u8, function: u8, data: Vec<u8>) -> Vec<u8> {
-    frame(&Message { source: MASTER, destination, control, function, data })
+fn request(destination: [u8; 2], control: u8, function: u8, payload: Vec<u8>) -> Vec<u8> {
+    frame(&Message { source: MASTER, destination, control, function, payload })
 }
 
 /// "10/00 off-line query, destination 00 00"; "10/03 reconnect and 10/04 re-register,
@@ -214,7 +214,7 @@ pub fn request_to_all(which: u8, lent: &mut [u8]) -> Written {
 /// address." "request builders 16, then 17, then 9".
 pub fn request_to_one(which: u8, address: u8, lent: &mut [u8]) -> Written {
     if !is_an_address(address) {
-        return not_written(number::OUT_OF_RANGE);
+        return not_written(number::WRONG_ADDRESS_OR_EXPONENT_TOO_LOW);
     }
     let (control, function) = match which {
         1 => (0x11, 0x02),
@@ -230,14 +230,14 @@ pub fn request_to_one(which: u8, address: u8, lent: &mut [u8]) -> Written {
 /// "An address is 1 to 254, else 16; a serial not of 16 bytes is 17."
 pub fn give_an_address(serial: &[u8], address: u8, lent: &mut [u8]) -> Written {
     if !is_an_address(address) {
-        return not_written(number::OUT_OF_RANGE);
+        return not_written(number::WRONG_ADDRESS_OR_EXPONENT_TOO_LOW);
     }
     if serial.len() != 16 {
-        return not_written(number::WRONG_FORM);
+        return not_written(number::NOT_FOR_THIS_CALL);
     }
-    let mut data = serial.to_vec();
-    data.push(address);
-    hand_over(&request([0, 0], 0x10, 0x01, data), lent)
+    let mut payload = serial.to_vec();
+    payload.push(address);
+    hand_over(&request([0, 0], 0x10, 0x01, payload), lent)
 }
 
 /// "An address is 1 to 254".
@@ -249,16 +249,16 @@ pub fn is_an_address(address: u8) -> bool {
 
 /// "Reply 11/90: total energy is item 20 times 65,536 plus item 21, in tenths of a kWh";
 /// "Another control or function, or fewer than 44 data bytes: 17."
-pub fn total_energy(control: u8, function: u8, data: &[u8]) -> Result<u32, u8> {
-    if control != 0x11 || function != 0x90 || data.len() < 44 {
-        return Err(number::WRONG_FORM);
+pub fn total_energy(control: u8, function: u8, payload: &[u8]) -> Result<u32, u8> {
+    if control != 0x11 || function != 0x90 || payload.len() < 44 {
+        return Err(number::NOT_FOR_THIS_CALL);
     }
-    Ok(item(data, 20) * 65_536 + item(data, 21))
+    Ok(item(payload, 20) * 65_536 + item(payload, 21))
 }
 
 /// "item k being the word at data bytes 2k and 2k+1", high byte first (document 02, Req 03).
-fn item(data: &[u8], k: usize) -> u32 {
-    u32::from(word_of(data[2 * k], data[2 * k + 1]))
+fn item(payload: &[u8], k: usize) -> u32 {
+    u32::from(word_of(payload[2 * k], payload[2 * k + 1]))
 }
 
 /// "attempt 1 waits 0; each later attempt waits the remainder by 15 of what is left, and
@@ -271,6 +271,6 @@ pub fn wait(serial: u64, attempt: u8) -> Result<u64, u8> {
     }
     match attempt {
         1..=4 => Ok(waits[usize::from(attempt) - 1]),
-        _ => Err(number::WRONG_FORM),
+        _ => Err(number::NOT_FOR_THIS_CALL),
     }
 }

@@ -1,4 +1,4 @@
-//! Results of `probe` in words, for the report of a disagreement.
+//! Results of `test_probe` in words, for the report of a disagreement.
 
 /// The fields of PORTS.
 const PORTS: [(&str, usize); 11] = [

@@ -1,22 +1,22 @@
 //! "Fronius on the wire".
 
 use crate::number;
-use crate::{hand_over, not_written, one_call, Data, Event, Outcome, Reading, Written};
+use crate::{hand_over, not_written, one_call, Event, Outcome, Payload, Reading, Written};
 
 pub const START: u8 = 0x80;
-pub const MOST_DATA: usize = 127;
+pub const MOST_PAYLOAD: usize = 127;
 
 /// "for Fronius device, number, command, 0 to 127 data bytes".
 pub struct Message {
     pub device: u8,
     pub number: u8,
     pub command: u8,
-    pub data: Vec<u8>,
+    pub payload: Vec<u8>,
 }
 
-impl Data for Message {
-    fn data(&self) -> &[u8] {
-        &self.data
+impl Payload for Message {
+    fn payload(&self) -> &[u8] {
+        &self.payload
     }
 }
 
@@ -24,9 +24,9 @@ impl Data for Message {
 
 /// "80 80 80, length, device, number, command, data, checksum". "Length always counts the data".
 pub fn frame(message: &Message) -> Vec<u8> {
-    let mut summed = vec![message.data.len() as u8];
+    let mut summed = vec![message.payload.len() as u8];
     summed.extend([message.device, message.number, message.command]);
-    summed.extend(&message.data);
+    summed.extend(&message.payload);
     let mut frame = vec![START; 3];
     frame.extend(&summed);
     frame.push(sum_of(&summed));
@@ -41,8 +41,8 @@ pub fn sum_of(summed: &[u8]) -> u8 {
 
 /// "Writers test 8, then 9".
 pub fn write(message: &Message, lent: &mut [u8]) -> Written {
-    if message.data.len() > MOST_DATA {
-        return not_written(number::DATA_TOO_LONG);
+    if message.payload.len() > MOST_PAYLOAD {
+        return not_written(number::TOO_LONG);
     }
     hand_over(&frame(message), lent)
 }
@@ -62,22 +62,22 @@ pub fn events(stream: &[u8]) -> Vec<Event<Message>> {
 
 /// A start, its length, and the whole frame; nothing where it is not all there yet.
 fn next_event(stream: &[u8], from: usize) -> Option<Event<Message>> {
-    let place = place_of_length(stream, from)?;
-    let length = stream[place];
+    let position = position_of_length(stream, from)?;
+    let length = stream[position];
     // "81 to FF is 7".
     if length > START {
-        return Some(Event { end: place + 1, outcome: Err(number::WRONG_LENGTH) });
+        return Some(Event { end: position + 1, outcome: Err(number::WRONG_LENGTH_BYTE) });
     }
-    let end = place + 1 + 3 + usize::from(length) + 1;
-    let frame = stream.get(place..end)?;
+    let end = position + 1 + 3 + usize::from(length) + 1;
+    let frame = stream.get(position..end)?;
     Some(Event { end, outcome: judge_frame(frame) })
 }
 
 /// "after three successive 80 comes the length. A further 80 there is taken as part of the
 /// start": the first byte other than 80 that three 80 stand directly before.
-fn place_of_length(stream: &[u8], from: usize) -> Option<usize> {
+fn position_of_length(stream: &[u8], from: usize) -> Option<usize> {
     (from + 3..stream.len())
-        .find(|&place| stream[place] != START && stream[place - 3..place] == [START; 3])
+        .find(|&position| stream[position] != START && stream[position - 3..position] == [START; 3])
 }
 
 /// "A wrong sum is 6." `frame` is the length byte and all after it.
@@ -90,7 +90,7 @@ fn judge_frame(frame: &[u8]) -> Outcome<Message> {
         device: summed[1],
         number: summed[2],
         command: summed[3],
-        data: summed[4..].to_vec(),
+        payload: summed[4..].to_vec(),
     })
 }
 
@@ -114,7 +114,7 @@ pub fn fresh() -> State {
     State { held: vec![0; MOST_HELD], stage: AT_THE_START, count: 0, length: 0 }
 }
 
-/// The ranges: at the start 0 to 3 successive 80; in the body a data length of 0 to 127 and
+/// The ranges: at the start 0 to 3 successive 80; in the body a payload length of 0 to 127 and
 /// 0 to 3 plus that length held.
 fn in_range(state: &State) -> bool {
     match state.stage {
@@ -147,7 +147,7 @@ fn take_at_the_start(state: &mut State, byte: u8) -> Option<Outcome<Message>> {
         state.count = 0;
     } else if byte > START {
         count_afresh(state);
-        return Some(Err(number::WRONG_LENGTH));
+        return Some(Err(number::WRONG_LENGTH_BYTE));
     } else {
         begin_the_body(state, byte);
     }
@@ -177,27 +177,27 @@ fn count_afresh(state: &mut State) {
 // ---- measured values and readings ----
 
 /// "A measured value is three data bytes: high, low, exponent." "Not three bytes: 17."
-fn measured(data: &[u8]) -> Result<(u16, i8), u8> {
-    match *data {
+fn measured(payload: &[u8]) -> Result<(u16, i8), u8> {
+    match *payload {
         [high, low, exponent] => Ok((u16::from(high) * 256 + u16::from(low), exponent as i8)),
-        _ => Err(number::WRONG_FORM),
+        _ => Err(number::NOT_FOR_THIS_CALL),
     }
 }
 
 /// "the exponent always signed"; "Exponent above 10: 15. Below -3: 16."
 fn exponent_in_range(exponent: i8) -> Result<i32, u8> {
     if exponent > 10 {
-        return Err(number::EXPONENT_ABOVE);
+        return Err(number::EXPONENT_TOO_HIGH);
     }
     if exponent < -3 {
-        return Err(number::OUT_OF_RANGE);
+        return Err(number::WRONG_ADDRESS_OR_EXPONENT_TOO_LOW);
     }
     Ok(i32::from(exponent))
 }
 
 /// "The result is value times ten to the exponent, given exactly as whole thousandths."
-pub fn thousandths(signed: bool, data: &[u8]) -> Result<i64, u8> {
-    let (word, exponent) = measured(data)?;
+pub fn thousandths(signed: bool, payload: &[u8]) -> Result<i64, u8> {
+    let (word, exponent) = measured(payload)?;
     let exponent = exponent_in_range(exponent)?;
     Ok(value_of(signed, word) * 10_i64.pow((exponent + 3) as u32))
 }
@@ -241,12 +241,12 @@ pub struct ReadingOfACommand {
 }
 
 /// "All unsigned; another command, or a device other than 01, is 17." "Tests: 17, then 15 or 16."
-pub fn reading(device: u8, command: u8, data: &[u8]) -> Result<ReadingOfACommand, u8> {
+pub fn reading(device: u8, command: u8, payload: &[u8]) -> Result<ReadingOfACommand, u8> {
     if device != 0x01 {
-        return Err(number::WRONG_FORM);
+        return Err(number::NOT_FOR_THIS_CALL);
     }
-    let kind = kind_of(command).ok_or(number::WRONG_FORM)?;
-    let (value, exponent) = measured(data)?;
+    let kind = kind_of(command).ok_or(number::NOT_FOR_THIS_CALL)?;
+    let (value, exponent) = measured(payload)?;
     let exponent = exponent_in_range(exponent)?;
     Ok(ReadingOfACommand { kind, double: double_of(value, exponent) })
 }

@@ -78,7 +78,7 @@ const P3: &str = "AA 55 01 00 00 00 10 00 00 01 10";
 const P3_OF_DOCUMENT_01: &str = "AA 55 01 00 00 00 10 00 00 10 01";
 const SUM_THE_SAME_BOTH_WAYS: &str = "AA 55 01 00 00 00 10 00 01 F1 02 02";
 
-/// The order of the words: which sum is right, and what two data words tell.
+/// The order of the words: which sum is right, and what two words of a payload tell.
 fn calls_of_req_03() -> Vec<KnownCall> {
     let no_message = "06 0B 00 00 00 00 00 00 00 00 00";
     vec![
@@ -100,12 +100,12 @@ fn calls_of_req_03() -> Vec<KnownCall> {
 
 /// A fresh reader is called once on a whole frame. Looking starts afresh behind it, and all but
 /// its header and its last byte stay held.
-fn eversolar_read(name: &'static str, frame: &str, told: &str, data: &[u8]) -> KnownCall {
+fn eversolar_read(name: &'static str, frame: &str, told: &str, payload: &[u8]) -> KnownCall {
     let (frame, fresh) = (bytes(frame), vec![0; 268]);
     let mut later = fresh.clone();
     later[..frame.len() - 3].copy_from_slice(&frame[2..frame.len() - 1]);
     let call = [vec![0x02], fresh, list(&frame), lent_with("", 255)].concat();
-    KnownCall { name, call, result: [bytes(told), later, lent_with(data, 255)].concat() }
+    KnownCall { name, call, result: [bytes(told), later, lent_with(payload, 255)].concat() }
 }
 
 const HEADER: &str = "port answer from to code data\n";
@@ -135,7 +135,7 @@ fn counts(packets: u64, messages: u64) -> Vec<u8> {
     [packets, messages, 0].map(u64::to_le_bytes).concat()
 }
 
-/// The text or the data at the front of a lent buffer of EE.
+/// The text or the payload at the front of a lent buffer of EE.
 fn lent_with(front: impl AsRef<[u8]>, length: usize) -> Vec<u8> {
     let mut lent = front.as_ref().to_vec();
     lent.resize(length, 0xEE);
@@ -187,15 +187,15 @@ fn calls_of_l1() -> Vec<KnownCall> {
     ]
 }
 
-fn packet_of(port: u8, line: &[u8]) -> Vec<u8> {
+fn packet_of(port: u8, piece: &[u8]) -> Vec<u8> {
     let mut packet = b"SBR\x00\x01".to_vec();
-    packet.extend([port, line.len() as u8]);
-    packet.extend(line);
+    packet.extend([port, piece.len() as u8]);
+    packet.extend(piece);
     packet
 }
 
 fn listing(name: &'static str, packets: &[(u8, &str)], output: &'static str) -> KnownListing {
-    let input = packets.iter().flat_map(|&(port, line)| packet_of(port, &bytes(line))).collect();
+    let input = packets.iter().flat_map(|&(port, piece)| packet_of(port, &bytes(piece))).collect();
     KnownListing { name, input, output }
 }
 

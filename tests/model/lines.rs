@@ -8,7 +8,7 @@ pub struct Fields {
     pub from: Vec<u8>,
     pub to: Vec<u8>,
     pub code: Vec<u8>,
-    pub data: Vec<u8>,
+    pub payload: Vec<u8>,
 }
 
 /// Source and destination are 16 bits, high byte first as on the wire; the code is the type byte
@@ -18,7 +18,7 @@ pub fn of_comlynx(message: &comlynx::Message) -> Fields {
         from: message.source.to_be_bytes().to_vec(),
         to: message.destination.to_be_bytes().to_vec(),
         code: vec![message.kind],
-        data: message.data.clone(),
+        payload: message.payload.clone(),
     }
 }
 
@@ -28,7 +28,7 @@ pub fn of_eversolar(message: &eversolar::Message) -> Fields {
         from: message.source.to_vec(),
         to: message.destination.to_vec(),
         code: vec![message.control, message.function],
-        data: message.data.clone(),
+        payload: message.payload.clone(),
     }
 }
 
@@ -38,16 +38,17 @@ pub fn of_fronius(message: &fronius::Message) -> Fields {
         from: vec![],
         to: vec![message.device, message.number],
         code: vec![message.command],
-        data: message.data.clone(),
+        payload: message.payload.clone(),
     }
 }
 
+/// The payload's column is called `data`.
 pub const HEADER: &str = "port answer from to code data\n";
 
 pub fn message(port: u8, fields: &Fields) -> String {
     let (from, to) = (field(&fields.from), field(&fields.to));
-    let (code, data) = (field(&fields.code), field(&fields.data));
-    format!("{port} 1 {from} {to} {code} {data}\n")
+    let (code, payload) = (field(&fields.code), field(&fields.payload));
+    format!("{port} 1 {from} {to} {code} {payload}\n")
 }
 
 /// "Hex is upper case; no data prints `-`."
@@ -78,9 +79,9 @@ const LONGEST_FIELD: usize = 255;
 
 /// "Writers test 8, then 9".
 pub fn write_message(port: u8, fields: &Fields, lent: &mut [u8]) -> Written {
-    let lists = [&fields.from, &fields.to, &fields.code, &fields.data];
+    let lists = [&fields.from, &fields.to, &fields.code, &fields.payload];
     if lists.iter().any(|list| list.len() > LONGEST_FIELD) {
-        return not_written(number::DATA_TOO_LONG);
+        return not_written(number::TOO_LONG);
     }
     hand_over(message(port, fields).as_bytes(), lent)
 }

@@ -56,8 +56,8 @@ fn take_in(input: &[u8]) -> Intake {
                 break;
             }
             Ok(packet) => {
-                let line_bytes = &rest[packet.used - usize::from(packet.count)..packet.used];
-                add_packet(&mut intake, usize::from(packet.port), line_bytes);
+                let piece = &rest[packet.used - usize::from(packet.count)..packet.used];
+                add_packet(&mut intake, usize::from(packet.port), piece);
                 rest = &rest[packet.used..];
             }
         }
@@ -73,9 +73,9 @@ fn next_packet(rest: &[u8], packets_before: usize) -> Result<packet::Packet, u8>
     packet::read(rest)
 }
 
-fn add_packet(intake: &mut Intake, port: usize, line_bytes: &[u8]) {
+fn add_packet(intake: &mut Intake, port: usize, piece: &[u8]) {
     let stream = &mut intake.streams[port - 1];
-    stream.extend(line_bytes);
+    stream.extend(piece);
     intake.packets.push(Taken { port, bytes_so_far: stream.len() });
 }
 

@@ -1,12 +1,12 @@
 //! Calls of the listing's lines, of the readers of all ports and of the listing packet by packet.
 
 use crate::calls::{
-    after, forged_call, fresh_state, grid_calls, head_with, lent_to_reader, op, shape, state_of,
+    after, forged_call, fresh_state, grid_calls, lead_with, lent_to_reader, op, shape, state_of,
     state_on_the_way, Call, Making,
 };
 use crate::random::Random;
 use crate::streams::{self, Family, FAMILIES};
-use right::{lines, packet, probe};
+use right::{lines, number, packet, probe};
 
 // ---- lines ----
 
@@ -31,9 +31,9 @@ fn end_line(messages: u64, damages: u64) -> Making {
 
 /// A message's line with fields of these lengths, and how many bytes the line has.
 fn message_line(port: u8, lengths: [usize; 4], random: &mut Random) -> (Making, usize) {
-    let [from, to, code, data] = lengths.map(|length| random.content(length));
-    let making = op(0x82).b(port).list(&from).list(&to).list(&code).list(&data);
-    let exact = lines::message(port, &lines::Fields { from, to, code, data }).len();
+    let [from, to, code, payload] = lengths.map(|length| random.content(length));
+    let making = op(0x82).b(port).list(&from).list(&to).list(&code).list(&payload);
+    let exact = lines::message(port, &lines::Fields { from, to, code, payload }).len();
     (making, exact)
 }
 
@@ -114,18 +114,18 @@ fn line_fields(random: &mut Random, calls: &mut Vec<Call>) {
     for from in FIELD_LENGTHS {
         for to in FIELD_LENGTHS {
             for code in FIELD_LENGTHS {
-                for data in FIELD_LENGTHS {
+                for payload in FIELD_LENGTHS {
                     let port = random.pick(&[1, 2, 3, 3, 10, 255]);
-                    let (line, exact) = message_line(port, [from, to, code, data], random);
+                    let (line, exact) = message_line(port, [from, to, code, payload], random);
                     calls.push(telling_room(line, exact, random));
                 }
             }
         }
     }
-    for place in 0..4 {
+    for field in 0..4 {
         for length in [254, 255, 256, 257, 300] {
             let mut lengths = [1; 4];
-            lengths[place] = length;
+            lengths[field] = length;
             let (line, exact) = message_line(1, lengths, random);
             for room in [0, exact - 1, exact, 2100] {
                 calls.push(line.again().list(&random.bytes(room)).from(LINES));
@@ -221,9 +221,9 @@ fn good_state(family: Family, random: &mut Random) -> Vec<u8> {
 
 /// States that are spoilt where a bit of `spoilt` says so.
 fn states_with(spoilt: usize, random: &mut Random) -> States {
-    let mut state = |place: usize| match spoilt >> place & 1 {
-        1 => spoilt_state(FAMILIES[place], random),
-        _ => good_state(FAMILIES[place], random),
+    let mut state = |index: usize| match spoilt >> index & 1 {
+        1 => spoilt_state(FAMILIES[index], random),
+        _ => good_state(FAMILIES[index], random),
     };
     [state(0), state(1), state(2)]
 }
@@ -249,11 +249,11 @@ fn through_its_port(family: Family, call: &Call, random: &mut Random) -> Making 
     let spoilt = random.pick(&[0, 0, 0, 7]);
     let mut states = states_with(spoilt, random);
     let (state, rest) = call.bytes[1..].split_at(shape(family).state);
-    states[place_of(family)] = state.to_vec();
-    op(0x87).raw(&states.concat()).b(place_of(family) as u8 + 1).raw(rest)
+    states[index_of(family)] = state.to_vec();
+    op(0x87).raw(&states.concat()).b(index_of(family) as u8 + 1).raw(rest)
 }
 
-fn place_of(family: Family) -> usize {
+fn index_of(family: Family) -> usize {
     FAMILIES.iter().position(|&other| other == family).expect("one of the three")
 }
 
@@ -296,12 +296,12 @@ pub fn port_chain(random: &mut Random, calls: &mut Vec<Call>) {
     let least = random.pick(&[20, 60, 300]);
     let streams = FAMILIES.map(|family| streams::stream(family, random, least));
     let longest_piece = random.pick(&[1, 5, 40, 300]);
-    let (mut states, mut places) = (fresh_states(), [0; 3]);
+    let (mut states, mut positions) = (fresh_states(), [0; 3]);
     for _ in 0..30 {
         let port = random.below(3);
-        let rest = &streams[port][places[port]..];
+        let rest = &streams[port][positions[port]..];
         let mut piece = &rest[..random.between(1, longest_piece).min(rest.len())];
-        places[port] += piece.len();
+        positions[port] += piece.len();
         loop {
             let lent = lent_to_reader(random);
             let call = port_call(&states, port as u8 + 1, piece, &lent).from(PORTS_CHAIN);
@@ -309,7 +309,7 @@ pub fn port_chain(random: &mut Random, calls: &mut Vec<Call>) {
             calls.push(call);
             states = next;
             piece = &piece[used..];
-            if number == 0 {
+            if number == number::DONE {
                 break;
             }
         }
@@ -321,7 +321,7 @@ pub fn port_chain(random: &mut Random, calls: &mut Vec<Call>) {
 const COUNTS: &str = "listing by packets, limits of the counts";
 const ROOMS: &str = "listing by packets, lent lengths";
 const CUTS: &str = "listing by packets, packets cut anywhere";
-const HEADS: &str = "listing by packets, wrong heads";
+const LEADS: &str = "listing by packets, wrong leads";
 const STATES: &str = "listing by packets, spoilt states";
 const CHAIN: &str = "listing by packets, a whole input";
 const ANY: &str = "listing by packets, forged listings";
@@ -374,10 +374,10 @@ impl Listing {
 
 /// A packet with a frame of its port's family, or a part of it.
 fn packet_of_a_frame(random: &mut Random) -> Vec<u8> {
-    let place = random.below(3);
-    let mut frame = streams::frame(FAMILIES[place], random);
+    let index = random.below(3);
+    let mut frame = streams::frame(FAMILIES[index], random);
     frame.truncate(240);
-    packet::packet(place as u8 + 1, &frame)
+    packet::packet(index as u8 + 1, &frame)
 }
 
 /// Inputs of every kind: nothing, whole packets, packets cut, and packets refused.
@@ -385,9 +385,9 @@ fn telling_inputs(random: &mut Random) -> Vec<Vec<u8>> {
     let whole = packet_of_a_frame(random);
     let last = whole.len() - 1;
     let two = [whole.clone(), packet_of_a_frame(random)].concat();
-    let with = |place: usize, value: u8| {
+    let with = |position: usize, value: u8| {
         let mut spoilt = whole.clone();
-        spoilt[place] = value;
+        spoilt[position] = value;
         spoilt
     };
     let mut inputs = vec![
@@ -413,7 +413,7 @@ pub fn listing_sweep(random: &mut Random, calls: &mut Vec<Call>) {
     listing_counts(random, calls);
     listing_rooms(random, calls);
     listing_cuts(random, calls);
-    listing_heads(random, calls);
+    listing_leads(random, calls);
     listing_states(random, calls);
     listing_busy(random, calls);
 }
@@ -473,11 +473,11 @@ fn listing_rooms(random: &mut Random, calls: &mut Vec<Call>) {
     }
 }
 
-/// A packet and what follows it, cut at every place, at the end of the input and before it.
+/// A packet and what follows it, cut at every byte, at the end of the input and before it.
 fn listing_cuts(random: &mut Random, calls: &mut Vec<Call>) {
-    for place in 0..3 {
-        let frame = streams::frame_with(FAMILIES[place], random, vec![0x11; 3]);
-        let both = [packet::packet(place as u8 + 1, &frame), packet_of_a_frame(random)].concat();
+    for index in 0..3 {
+        let frame = streams::frame_with(FAMILIES[index], random, vec![0x11; 3]);
+        let both = [packet::packet(index as u8 + 1, &frame), packet_of_a_frame(random)].concat();
         for cut in 0..=(7 + frame.len() + 8) {
             for ended in [false, true] {
                 let listing = Listing { states: fresh_states(), ..with_some_counts(random) };
@@ -498,29 +498,29 @@ fn with_some_counts(random: &mut Random) -> Listing {
     Listing::of_counts(packets, messages, damages, random)
 }
 
-/// Every byte of the head, and several of them at once, at the end of the input and before it,
+/// Every byte of the lead, and several of them at once, at the end of the input and before it,
 /// and where 65,536 packets are counted.
-fn listing_heads(random: &mut Random, calls: &mut Vec<Call>) {
-    for place in 0..7 {
+fn listing_leads(random: &mut Random, calls: &mut Vec<Call>) {
+    for position in 0..7 {
         for value in [0, 1, 2, 3, 4, 0x42, 0x52, 0x53, 240, 241, 255] {
             for length in [6, 7, 8, 247] {
                 let mut input = [packet::packet(1, &[0x7E]), vec![0x7E; 300]].concat();
-                input[place] = value;
+                input[position] = value;
                 let listing = with_some_counts(random);
                 let ended = random.one_in(2);
                 let making = listing.enough_lent(ended, &input[..length], random);
-                calls.push(making.from(HEADS));
+                calls.push(making.from(LEADS));
             }
         }
     }
     for wrong in 0..16 {
         for length in [6, 7, 26, 27] {
             for ended in [false, true] {
-                let input = head_with(wrong, random);
+                let input = lead_with(wrong, random);
                 let packets = random.pick(&[0, 5, 65_535, 65_536]);
                 let listing = Listing::of_counts(packets, packets, 0, random);
                 let making = listing.enough_lent(ended, &input[..length], random);
-                calls.push(making.from(HEADS));
+                calls.push(making.from(LEADS));
             }
         }
     }
@@ -542,8 +542,8 @@ fn listing_states(random: &mut Random, calls: &mut Vec<Call>) {
                 let most = packets * LINES_OF_A_PACKET;
                 let states = states_with(spoilt, random);
                 let listing = Listing { states, packets, messages: most + over, damages: most };
-                let line = streams::frame(FAMILIES[port % 3], random);
-                let input = packet::packet(port as u8, &line[..line.len().min(240)]);
+                let frame = streams::frame(FAMILIES[port % 3], random);
+                let input = packet::packet(port as u8, &frame[..frame.len().min(240)]);
                 let input = &input[..input.len().saturating_sub(cut)];
                 let making = listing.call(random.one_in(2), input, &random.bytes(lent));
                 calls.push(making.from(STATES));
@@ -563,35 +563,35 @@ fn listing_busy(random: &mut Random, calls: &mut Vec<Call>) {
         &[0x80, 0x80, 0x80, 0, 0, 0, 1, 1],
     ];
     for (order, part) in parts.iter().enumerate() {
-        let place = [0, 0, 0, 1, 2, 2][order];
+        let index = [0, 0, 0, 1, 2, 2][order];
         for first in 0..8 {
-            let frame = streams::frame_with(FAMILIES[place], random, vec![0xA5; first * 16]);
+            let frame = streams::frame_with(FAMILIES[index], random, vec![0xA5; first * 16]);
             let begun = frame.len() - (1 + first).min(frame.len());
-            let begin = fresh_state(shape(FAMILIES[place]));
-            let call = op(shape(FAMILIES[place]).op).raw(&begin).list(&frame[..begun]);
-            let (_, _, state) = after(shape(FAMILIES[place]), &call.list(&[0; 255]).bytes);
-            let mut line = [&frame[begun..], &part.repeat(120)].concat();
-            line.truncate(random.pick(&[240, 240, 239, 120]));
+            let begin = fresh_state(shape(FAMILIES[index]));
+            let call = op(shape(FAMILIES[index]).op).raw(&begin).list(&frame[..begun]);
+            let (_, _, state) = after(shape(FAMILIES[index]), &call.list(&[0; 255]).bytes);
+            let mut piece = [&frame[begun..], &part.repeat(120)].concat();
+            piece.truncate(random.pick(&[240, 240, 239, 120]));
             let mut listing = with_some_counts(random);
-            listing.states[place] = state;
-            let input = packet::packet(place as u8 + 1, &line);
+            listing.states[index] = state;
+            let input = packet::packet(index as u8 + 1, &piece);
             calls.push(listing.enough_lent(random.one_in(2), &input, random).from(BUSY));
         }
     }
 }
 
-/// A packet whose line goes on where its port's state stands.
+/// A packet whose piece goes on where its port's state stands.
 pub fn random_listing(random: &mut Random) -> Call {
-    let place = random.below(3);
+    let index = random.below(3);
     let spoilt = random.pick(&[0, 0, 0, 0, 0, 1, 2, 4, 7]);
     let mut states = states_with(spoilt, random);
-    let (state, mut line) = state_on_the_way(shape(FAMILIES[place]), random);
-    states[place] = state;
-    line.extend(streams::stream(FAMILIES[place], random, 10));
-    line.truncate(random.pick(&[1, 10, 100, 240, 240, 240]));
-    let mut input = packet::packet(place as u8 + 1, &line);
+    let (state, mut piece) = state_on_the_way(shape(FAMILIES[index]), random);
+    states[index] = state;
+    piece.extend(streams::stream(FAMILIES[index], random, 10));
+    piece.truncate(random.pick(&[1, 10, 100, 240, 240, 240]));
+    let mut input = packet::packet(index as u8 + 1, &piece);
     if random.one_in(4) {
-        streams::spoil_a_head(&mut input, random);
+        streams::spoil_a_lead(&mut input, random);
     }
     match random.below(4) {
         0 => input.extend(packet_of_a_frame(random)),
@@ -608,13 +608,13 @@ pub fn listing_chain(random: &mut Random, calls: &mut Vec<Call>) {
     let whole = streams::listing_input(random);
     let more = random.pick(&[1, 9, 300, 2000]);
     let (mut listing, mut ended) = (Listing::fresh(), false);
-    let (mut place, mut at_hand) = (0, 0);
+    let (mut position, mut at_hand) = (0, 0);
     for _ in 0..24 {
-        let input = &whole[place..at_hand.max(place)];
+        let input = &whole[position..at_hand.max(position)];
         let call = listing.enough_lent(ended, input, random).from(CHAIN);
         let result = probe::answer(&call.bytes).expect("a whole call");
         calls.push(call);
-        place += usize::from(result[2]) + 256 * usize::from(result[3]);
+        position += usize::from(result[2]) + 256 * usize::from(result[3]);
         listing = listing_in(&result[6..]);
         match result[1] {
             1 if at_hand == whole.len() => ended = true,
@@ -626,8 +626,8 @@ pub fn listing_chain(random: &mut Random, calls: &mut Vec<Call>) {
 }
 
 fn listing_in(bytes: &[u8]) -> Listing {
-    let count = |place: usize| {
-        let begin = PORTS_BYTES + 8 * place;
+    let count = |index: usize| {
+        let begin = PORTS_BYTES + 8 * index;
         u64::from_le_bytes(bytes[begin..begin + 8].try_into().expect("eight bytes"))
     };
     let states = cut_into_states(bytes);

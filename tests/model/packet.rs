@@ -6,7 +6,8 @@ use crate::{hand_over, not_written, Written};
 /// "Mark `SBR`, version 00 01 (high byte first)".
 const MARK: [u8; 3] = *b"SBR";
 const VERSION: [u8; 2] = [0x00, 0x01];
-const HEAD: usize = 7;
+/// The lead, before the piece: mark, version, port and count.
+const LEAD_BYTES: usize = 7;
 
 pub struct Packet {
     pub port: u8,
@@ -17,21 +18,21 @@ pub struct Packet {
 /// "Tests: fewer than 7 bytes 13; mark 10; version 11; port or count 12; bytes missing 13.
 /// What follows belongs to the next packet."
 pub fn read(bytes: &[u8]) -> Result<Packet, u8> {
-    if bytes.len() < HEAD {
+    if bytes.len() < LEAD_BYTES {
         return Err(number::BYTES_MISSING);
     }
     if bytes[..3] != MARK {
-        return Err(number::PACKET_MARK);
+        return Err(number::WRONG_MARK);
     }
     if bytes[3..5] != VERSION {
-        return Err(number::PACKET_VERSION);
+        return Err(number::WRONG_VERSION);
     }
     let (port, count) = (bytes[5], bytes[6]);
     if !is_a_port(port) || !is_a_count(usize::from(count)) {
-        return Err(number::PORT_OR_COUNT);
+        return Err(number::WRONG_PORT_OR_COUNT);
     }
     // "bytes used (7 plus count)".
-    let used = HEAD + usize::from(count);
+    let used = LEAD_BYTES + usize::from(count);
     if bytes.len() < used {
         return Err(number::BYTES_MISSING);
     }
@@ -49,17 +50,17 @@ fn is_a_count(count: usize) -> bool {
 }
 
 /// "the packet writer 12, then 9".
-pub fn write(port: u8, line: &[u8], lent: &mut [u8]) -> Written {
-    if !is_a_port(port) || !is_a_count(line.len()) {
-        return not_written(number::PORT_OR_COUNT);
+pub fn write(port: u8, piece: &[u8], lent: &mut [u8]) -> Written {
+    if !is_a_port(port) || !is_a_count(piece.len()) {
+        return not_written(number::WRONG_PORT_OR_COUNT);
     }
-    hand_over(&packet(port, line), lent)
+    hand_over(&packet(port, piece), lent)
 }
 
-pub fn packet(port: u8, line: &[u8]) -> Vec<u8> {
+pub fn packet(port: u8, piece: &[u8]) -> Vec<u8> {
     let mut packet = MARK.to_vec();
     packet.extend(VERSION);
-    packet.extend([port, line.len() as u8]);
-    packet.extend(line);
+    packet.extend([port, piece.len() as u8]);
+    packet.extend(piece);
     packet
 }

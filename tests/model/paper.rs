@@ -5,6 +5,10 @@
 //! The listing reads all bytes of a port at once, in whole stretches and whole
 //! frames; single calls on a given state, those of a listing made packet by packet too, go byte
 //! by byte.
+//!
+//! A sentence that is quoted keeps the paper's words. Elsewhere a message's data bytes are its
+//! payload, a packet's line bytes are its piece, and what stands before either is the lead. A line
+//! is a line of text of a listing.
 
 pub mod by_packet;
 pub mod checksum;
@@ -18,27 +22,51 @@ pub mod ports;
 pub mod probe;
 pub mod roster;
 
-/// The answer numbers ("Answer numbers").
+/// The answer numbers ("Answer numbers"): 2 to 7 are damages, 8 to 19 refusals.
 pub mod number {
+    /// Done; for a reader: the piece is used up.
     pub const DONE: u8 = 0;
+    /// A message was read.
     pub const MESSAGE: u8 = 1;
+    /// ComLynx: a 7D of the stretch is not followed by 5E or 5D.
     pub const BROKEN_PAIR: u8 = 2;
-    pub const BODY_LENGTH: u8 = 3;
-    pub const BODY_BEGINNING: u8 = 4;
-    pub const BODY_SIZE: u8 = 5;
+    /// ComLynx: the whole body has fewer than 10 bytes or more than 265. A wrong length byte is 7.
+    pub const WRONG_BODY_LENGTH: u8 = 3;
+    /// ComLynx: the body does not begin FF 03.
+    pub const WRONG_START: u8 = 4;
+    /// ComLynx: the size byte is not the body's length less 10.
+    pub const WRONG_SIZE: u8 = 5;
+    /// Any family: the checksum does not agree.
     pub const WRONG_SUM: u8 = 6;
-    pub const WRONG_LENGTH: u8 = 7;
-    pub const DATA_TOO_LONG: u8 = 8;
-    pub const ROOM: u8 = 9;
-    pub const PACKET_MARK: u8 = 10;
-    pub const PACKET_VERSION: u8 = 11;
-    pub const PORT_OR_COUNT: u8 = 12;
+    /// Fronius: 81 to FF stands where the length byte is due. A body of a wrong length is 3.
+    pub const WRONG_LENGTH_BYTE: u8 = 7;
+    /// A payload is too long to write, or a field of a line is.
+    pub const TOO_LONG: u8 = 8;
+    /// The lent buffer is too small.
+    pub const NO_ROOM: u8 = 9;
+    /// A packet does not begin `SBR`.
+    pub const WRONG_MARK: u8 = 10;
+    /// A packet's version is not 00 01.
+    pub const WRONG_VERSION: u8 = 11;
+    /// A port is not 1 to 3, or a packet's count is not 1 to 240.
+    pub const WRONG_PORT_OR_COUNT: u8 = 12;
+    /// A packet is not all there.
     pub const BYTES_MISSING: u8 = 13;
+    /// All 254 places are used by other serials.
     pub const ROSTER_FULL: u8 = 14;
-    pub const EXPONENT_ABOVE: u8 = 15;
-    pub const OUT_OF_RANGE: u8 = 16;
-    pub const WRONG_FORM: u8 = 17;
+    /// The exponent of a measured value is above 10.
+    pub const EXPONENT_TOO_HIGH: u8 = 15;
+    /// An address, or its network or subnet, is out of its range, or the address to remove is
+    /// free; or the exponent of a measured value is below -3. The paper has one number for both.
+    pub const WRONG_ADDRESS_OR_EXPONENT_TOO_LOW: u8 = 16;
+    /// What was handed over is nothing that this call takes: error bits that do not fit, a message
+    /// of another kind or with a payload of another length, a serial not of 16 bytes, an attempt
+    /// not 1 to 4.
+    pub const NOT_FOR_THIS_CALL: u8 = 17;
+    /// A roster that breaks its rules; a reader's state or the counts of a listing outside their
+    /// range.
     pub const SPOILT: u8 = 18;
+    /// More input follows after 65,536 packets.
     pub const TOO_MANY_PACKETS: u8 = 19;
 }
 
@@ -59,8 +87,8 @@ pub struct Reading<M> {
 }
 
 /// A message of any family, as far as a reader's lent buffer goes.
-pub trait Data {
-    fn data(&self) -> &[u8];
+pub trait Payload {
+    fn payload(&self) -> &[u8];
 }
 
 /// "reader: under 255 bytes lent": 9. One limit for the three families.
@@ -72,14 +100,14 @@ pub fn refusal_before_the_piece(state_in_range: bool, lent: &[u8]) -> Option<u8>
         return Some(number::SPOILT);
     }
     if lent.len() < LEAST_LENT_TO_A_READER {
-        return Some(number::ROOM);
+        return Some(number::NO_ROOM);
     }
     None
 }
 
 /// One call of a reader: refusals first, then byte after byte until one settles something.
 /// `take` gives the next byte to the state.
-pub fn one_call<M: Data>(
+pub fn one_call<M: Payload>(
     state_in_range: bool,
     piece: &[u8],
     lent: &mut [u8],
@@ -88,9 +116,9 @@ pub fn one_call<M: Data>(
     if let Some(refusal) = refusal_before_the_piece(state_in_range, lent) {
         return Reading { number: refusal, used: 0, message: None };
     }
-    for (place, &byte) in piece.iter().enumerate() {
+    for (position, &byte) in piece.iter().enumerate() {
         if let Some(outcome) = take(byte) {
-            return settled(place + 1, outcome, lent);
+            return settled(position + 1, outcome, lent);
         }
     }
     // "done; for a reader, piece used up": "all bytes used, lent buffer unchanged".
@@ -99,10 +127,10 @@ pub fn one_call<M: Data>(
 
 /// 1: "bytes used up to its last; data at the front of the lent buffer, rest unchanged".
 /// 2 to 7: "bytes used up to the one that settles it, lent buffer unchanged".
-fn settled<M: Data>(used: usize, outcome: Outcome<M>, lent: &mut [u8]) -> Reading<M> {
+fn settled<M: Payload>(used: usize, outcome: Outcome<M>, lent: &mut [u8]) -> Reading<M> {
     match outcome {
         Ok(message) => {
-            put_in_front(message.data(), lent);
+            put_in_front(message.payload(), lent);
             Reading { number: number::MESSAGE, used, message: Some(message) }
         }
         Err(damage) => Reading { number: damage, used, message: None },
@@ -124,7 +152,7 @@ pub fn not_written(refusal: u8) -> Written {
 /// Else 0: "the length, bytes at the front of the lent buffer, rest unchanged".
 pub fn hand_over(bytes: &[u8], lent: &mut [u8]) -> Written {
     if lent.len() < bytes.len() {
-        return not_written(number::ROOM);
+        return not_written(number::NO_ROOM);
     }
     put_in_front(bytes, lent);
     Written { number: number::DONE, length: bytes.len() }

@@ -23,7 +23,7 @@ pub fn read(ports: &mut Ports, port: u8, piece: &[u8], lent: &mut [u8]) -> Readi
         1 => as_fields(comlynx::read(&mut ports.comlynx, piece, lent), lines::of_comlynx),
         2 => as_fields(eversolar::read(&mut ports.eversolar, piece, lent), lines::of_eversolar),
         3 => as_fields(fronius::read(&mut ports.fronius, piece, lent), lines::of_fronius),
-        _ => Reading { number: number::PORT_OR_COUNT, used: 0, message: None },
+        _ => Reading { number: number::WRONG_PORT_OR_COUNT, used: 0, message: None },
     }
 }
 

@@ -1,4 +1,4 @@
-//! The protocol of `probe`: calls in, results out, each made by the model.
+//! The protocol of `test_probe`: calls in, results out, each made by the model.
 
 use crate::by_packet::{self, Listing};
 use crate::lines::{self, Fields};
@@ -12,7 +12,7 @@ const LONGEST_LIST: usize = 16_384;
 /// "A call of more than 65,536 bytes".
 const LONGEST_CALL: usize = 65_536;
 
-/// "`probe` reads calls from standard input, makes each, and writes its result to standard
+/// "`test_probe` reads calls from standard input, makes each, and writes its result to standard
 /// output, call after call, until the input ends. A call whose bytes are not all there, an opcode
 /// that is not listed, a list longer than it may be, or a call of more than 65,536 bytes, ends it:
 /// it writes nothing more."
@@ -175,7 +175,7 @@ fn read_comlynx(calls: &mut Arguments) -> Option<Answer> {
             .word(message.source)
             .word(message.destination)
             .byte(message.kind)
-            .word(message.data.len() as u16),
+            .word(message.payload.len() as u16),
         None => answer.bytes(&[0; 7]),
     };
     Some(put_comlynx_state(answer, &state).list(&lent))
@@ -202,7 +202,7 @@ fn read_eversolar(calls: &mut Arguments) -> Option<Answer> {
             .bytes(&message.destination)
             .byte(message.control)
             .byte(message.function)
-            .word(message.data.len() as u16),
+            .word(message.payload.len() as u16),
         None => answer.bytes(&[0; 8]),
     };
     Some(put_eversolar_state(answer, &state).list(&lent))
@@ -228,7 +228,7 @@ fn read_fronius(calls: &mut Arguments) -> Option<Answer> {
             .byte(message.device)
             .byte(message.number)
             .byte(message.command)
-            .word(message.data.len() as u16),
+            .word(message.payload.len() as u16),
         None => answer.bytes(&[0; 5]),
     };
     Some(put_fronius_state(answer, &state).list(&lent))
@@ -249,7 +249,7 @@ fn write_comlynx(calls: &mut Arguments) -> Option<Answer> {
         source: calls.word()?,
         destination: calls.word()?,
         kind: calls.byte()?,
-        data: calls.list()?.to_vec(),
+        payload: calls.list()?.to_vec(),
     };
     let mut lent = calls.lent()?;
     let written = comlynx::write(&message, &mut lent);
@@ -262,7 +262,7 @@ fn write_eversolar(calls: &mut Arguments) -> Option<Answer> {
         destination: calls.pair()?,
         control: calls.byte()?,
         function: calls.byte()?,
-        data: calls.list()?.to_vec(),
+        payload: calls.list()?.to_vec(),
     };
     let mut lent = calls.lent()?;
     let written = eversolar::write(&message, &mut lent);
@@ -274,7 +274,7 @@ fn write_fronius(calls: &mut Arguments) -> Option<Answer> {
         device: calls.byte()?,
         number: calls.byte()?,
         command: calls.byte()?,
-        data: calls.list()?.to_vec(),
+        payload: calls.list()?.to_vec(),
     };
     let mut lent = calls.lent()?;
     let written = fronius::write(&message, &mut lent);
@@ -284,8 +284,8 @@ fn write_fronius(calls: &mut Arguments) -> Option<Answer> {
 // ---- ComLynx meaning and addresses ----
 
 fn meaning(calls: &mut Arguments) -> Option<Answer> {
-    let (kind, data) = (calls.byte()?, calls.list()?);
-    Some(match comlynx::meaning(kind, data) {
+    let (kind, payload) = (calls.byte()?, calls.list()?);
+    Some(match comlynx::meaning(kind, payload) {
         Ok(meaning) => {
             Answer::of(number::DONE).byte(meaning.kind).byte(meaning.id).byte(meaning.code)
         }
@@ -327,8 +327,8 @@ fn give_an_address(calls: &mut Arguments) -> Option<Answer> {
 }
 
 fn total_energy(calls: &mut Arguments) -> Option<Answer> {
-    let (control, function, data) = (calls.byte()?, calls.byte()?, calls.list()?);
-    Some(match eversolar::total_energy(control, function, data) {
+    let (control, function, payload) = (calls.byte()?, calls.byte()?, calls.list()?);
+    Some(match eversolar::total_energy(control, function, payload) {
         Ok(tenths) => Answer::of(number::DONE).bytes(&tenths.to_le_bytes()),
         Err(refusal) => Answer::of(refusal).bytes(&[0; 4]),
     })
@@ -355,16 +355,16 @@ fn two_bytes_of_a_word(calls: &mut Arguments) -> Option<Answer> {
 // ---- Fronius values ----
 
 fn measured_value(calls: &mut Arguments) -> Option<Answer> {
-    let (signed, data) = (calls.byte()?, calls.list()?);
-    Some(match fronius::thousandths(signed == 1, data) {
+    let (signed, payload) = (calls.byte()?, calls.list()?);
+    Some(match fronius::thousandths(signed == 1, payload) {
         Ok(thousandths) => Answer::of(number::DONE).bytes(&thousandths.to_le_bytes()),
         Err(refusal) => Answer::of(refusal).bytes(&[0; 8]),
     })
 }
 
 fn reading(calls: &mut Arguments) -> Option<Answer> {
-    let (device, command, data) = (calls.byte()?, calls.byte()?, calls.list()?);
-    Some(match fronius::reading(device, command, data) {
+    let (device, command, payload) = (calls.byte()?, calls.byte()?, calls.list()?);
+    Some(match fronius::reading(device, command, payload) {
         Ok(reading) => Answer::of(number::DONE)
             .byte(reading.kind)
             .bytes(&reading.double.to_bits().to_le_bytes()),
@@ -443,8 +443,8 @@ fn read_packet(calls: &mut Arguments) -> Option<Answer> {
 }
 
 fn write_packet(calls: &mut Arguments) -> Option<Answer> {
-    let (port, line, mut lent) = (calls.byte()?, calls.list()?, calls.lent()?);
-    let written = packet::write(port, line, &mut lent);
+    let (port, piece, mut lent) = (calls.byte()?, calls.list()?, calls.lent()?);
+    let written = packet::write(port, piece, &mut lent);
     Some(put_written(&written, &lent))
 }
 
@@ -483,9 +483,9 @@ fn header_line(calls: &mut Arguments) -> Option<Answer> {
 fn message_line(calls: &mut Arguments) -> Option<Answer> {
     let port = calls.byte()?;
     let (from, to) = (calls.list()?.to_vec(), calls.list()?.to_vec());
-    let (code, data) = (calls.list()?.to_vec(), calls.list()?.to_vec());
+    let (code, payload) = (calls.list()?.to_vec(), calls.list()?.to_vec());
     let mut lent = calls.lent()?;
-    let written = lines::write_message(port, &Fields { from, to, code, data }, &mut lent);
+    let written = lines::write_message(port, &Fields { from, to, code, payload }, &mut lent);
     Some(put_written(&written, &lent))
 }
 
@@ -531,7 +531,7 @@ fn read_a_port(calls: &mut Arguments) -> Option<Answer> {
             .list(&fields.from)
             .list(&fields.to)
             .list(&fields.code)
-            .word(fields.data.len() as u16),
+            .word(fields.payload.len() as u16),
         None => answer.list(&[]).list(&[]).list(&[]).word(0),
     };
     Some(put_ports(answer, &ports).list(&lent))

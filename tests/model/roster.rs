@@ -74,7 +74,7 @@ fn refusal_of_a_serial(places: &[Place], serial: &[u8]) -> Result<(), u8> {
         return Err(number::SPOILT);
     }
     if serial.len() != SERIAL_BYTES {
-        return Err(number::WRONG_FORM);
+        return Err(number::NOT_FOR_THIS_CALL);
     }
     Ok(())
 }
@@ -99,11 +99,11 @@ pub fn remove(places: &mut [Place], address: u8) -> Result<(), u8> {
         return Err(number::SPOILT);
     }
     if address == 0 || address == 255 {
-        return Err(number::OUT_OF_RANGE);
+        return Err(number::WRONG_ADDRESS_OR_EXPONENT_TOO_LOW);
     }
     let place = &mut places[usize::from(address) - 1];
     if !is_used(place) {
-        return Err(number::OUT_OF_RANGE);
+        return Err(number::WRONG_ADDRESS_OR_EXPONENT_TOO_LOW);
     }
     place.fill(0);
     Ok(())

@@ -14,10 +14,10 @@ pub enum Family {
 pub const FAMILIES: [Family; 3] = [Family::ComLynx, Family::Eversolar, Family::Fronius];
 
 impl Family {
-    pub fn most_data(self) -> usize {
+    pub fn most_payload(self) -> usize {
         match self {
-            Family::Fronius => fronius::MOST_DATA,
-            _ => comlynx::MOST_DATA,
+            Family::Fronius => fronius::MOST_PAYLOAD,
+            _ => comlynx::MOST_PAYLOAD,
         }
     }
 
@@ -56,8 +56,8 @@ fn junk(random: &mut Random) -> Vec<u8> {
     random.specials(count)
 }
 
-pub fn data_length(family: Family, random: &mut Random) -> usize {
-    let most = family.most_data();
+pub fn payload_length(family: Family, random: &mut Random) -> usize {
+    let most = family.most_payload();
     match random.below(8) {
         0 => most,
         1 => most - 1,
@@ -70,32 +70,32 @@ pub fn data_length(family: Family, random: &mut Random) -> usize {
 
 /// A valid frame.
 pub fn frame(family: Family, random: &mut Random) -> Vec<u8> {
-    let length = data_length(family, random);
-    let data = random.content(length);
-    frame_with(family, random, data)
+    let length = payload_length(family, random);
+    let payload = random.content(length);
+    frame_with(family, random, payload)
 }
 
-pub fn frame_with(family: Family, random: &mut Random, data: Vec<u8>) -> Vec<u8> {
-    let head = if random.one_in(8) { vec![0xFF; 6] } else { random.specials(6) };
+pub fn frame_with(family: Family, random: &mut Random, payload: Vec<u8>) -> Vec<u8> {
+    let lead = if random.one_in(8) { vec![0xFF; 6] } else { random.specials(6) };
     match family {
         Family::ComLynx => comlynx::frame(&comlynx::Message {
-            source: u16::from_be_bytes([head[0], head[1]]),
-            destination: u16::from_be_bytes([head[2], head[3]]),
-            kind: head[4],
-            data,
+            source: u16::from_be_bytes([lead[0], lead[1]]),
+            destination: u16::from_be_bytes([lead[2], lead[3]]),
+            kind: lead[4],
+            payload,
         }),
         Family::Eversolar => eversolar::frame(&eversolar::Message {
-            source: [head[0], head[1]],
-            destination: [head[2], head[3]],
-            control: head[4],
-            function: head[5],
-            data,
+            source: [lead[0], lead[1]],
+            destination: [lead[2], lead[3]],
+            control: lead[4],
+            function: lead[5],
+            payload,
         }),
         Family::Fronius => fronius::frame(&fronius::Message {
-            device: head[0],
-            number: head[1],
-            command: head[2],
-            data,
+            device: lead[0],
+            number: lead[1],
+            command: lead[2],
+            payload,
         }),
     }
 }
@@ -104,14 +104,14 @@ pub fn frame_with(family: Family, random: &mut Random, data: Vec<u8>) -> Vec<u8>
 /// or cut.
 fn spoilt_frame(family: Family, random: &mut Random) -> Vec<u8> {
     let mut frame = frame(family, random);
-    let place = place_in(&frame, random);
+    let position = position_in(&frame, random);
     match random.below(7) {
-        0 | 1 => frame[place] = random.special(),
-        2 => frame[place] ^= 1 << random.below(8),
-        3 => drop(frame.remove(place)),
-        4 => frame.insert(place, frame[place]),
-        5 => frame.insert(place, random.special()),
-        _ => frame.truncate(place),
+        0 | 1 => frame[position] = random.special(),
+        2 => frame[position] ^= 1 << random.below(8),
+        3 => drop(frame.remove(position)),
+        4 => frame.insert(position, frame[position]),
+        5 => frame.insert(position, random.special()),
+        _ => frame.truncate(position),
     }
     if random.one_in(4) && frame.len() > 1 {
         let last = frame.len() - 1;
@@ -121,7 +121,7 @@ fn spoilt_frame(family: Family, random: &mut Random) -> Vec<u8> {
 }
 
 /// Often near the front or the end, where the rules are.
-fn place_in(frame: &[u8], random: &mut Random) -> usize {
+fn position_in(frame: &[u8], random: &mut Random) -> usize {
     let last = frame.len() - 1;
     match random.below(3) {
         0 => random.below(frame.len()),
@@ -133,8 +133,8 @@ fn place_in(frame: &[u8], random: &mut Random) -> usize {
 /// Two frames, the second beginning inside the first, or put into it.
 fn overlapping(family: Family, random: &mut Random) -> Vec<u8> {
     let (mut first, second) = (frame(family, random), frame(family, random));
-    let place = place_in(&first, random);
-    let rest = first.split_off(place);
+    let position = position_in(&first, random);
+    let rest = first.split_off(position);
     first.extend(second);
     if random.one_in(2) {
         first.extend(rest);
@@ -219,10 +219,10 @@ pub fn stretch_with(random: &mut Random, length: usize, wrong: u8) -> Vec<u8> {
 }
 
 fn break_a_pair(stuffed: &mut Vec<u8>, random: &mut Random) {
-    let place = random.between(0, stuffed.len());
-    stuffed.insert(place, comlynx::ESCAPE);
+    let position = random.between(0, stuffed.len());
+    stuffed.insert(position, comlynx::ESCAPE);
     if random.one_in(2) {
-        stuffed.insert(place + 1, random.special());
+        stuffed.insert(position + 1, random.special());
     }
     if random.one_in(3) {
         stuffed.push(comlynx::ESCAPE);
@@ -250,10 +250,10 @@ fn shaped_eversolar(random: &mut Random) -> Vec<u8> {
 
 /// The sum as it is where AA 55 is not counted, which may change both of its bytes.
 fn leave_the_header_out(frame: &mut [u8]) {
-    let place = frame.len() - 2;
-    let sum = eversolar::word_of(frame[place], frame[place + 1]);
+    let position = frame.len() - 2;
+    let sum = eversolar::word_of(frame[position], frame[position + 1]);
     let header: u16 = eversolar::HEADER.iter().copied().map(u16::from).sum();
-    frame[place..].copy_from_slice(&eversolar::high_byte_first(sum.wrapping_sub(header)));
+    frame[position..].copy_from_slice(&eversolar::high_byte_first(sum.wrapping_sub(header)));
 }
 
 /// Further 80, too few 80, lengths from 80, sums that take more or less in.
@@ -307,28 +307,28 @@ fn next_packet(
 ) -> Vec<u8> {
     let cut = if random.one_in(3) { longest_cut } else { random.between(1, longest_cut) };
     let rest = stream.split_off(cut.min(stream.len()));
-    let line = std::mem::replace(stream, rest);
-    packet::packet(port as u8 + 1, &line)
+    let piece = std::mem::replace(stream, rest);
+    packet::packet(port as u8 + 1, &piece)
 }
 
-/// One packet (mostly a late one) gets a wrong head, or the input ends inside it.
+/// One packet (mostly a late one) gets a wrong lead, or the input ends inside it.
 fn spoil_the_packets(packets: &mut Vec<Vec<u8>>, random: &mut Random) {
     if packets.is_empty() {
         packets.push(packet::packet(1, &[0x7E]));
     }
-    let place = packets.len() - 1 - random.below(packets.len().min(4));
-    spoil_a_head(&mut packets[place], random);
+    let index = packets.len() - 1 - random.below(packets.len().min(4));
+    spoil_a_lead(&mut packets[index], random);
     if random.one_in(4) {
-        spoil_a_head(&mut packets[place], random);
+        spoil_a_lead(&mut packets[index], random);
     }
     if random.one_in(3) {
-        let cut = random.below(packets[place].len());
-        packets[place].truncate(cut);
-        packets.truncate(place + 1);
+        let cut = random.below(packets[index].len());
+        packets[index].truncate(cut);
+        packets.truncate(index + 1);
     }
 }
 
-pub fn spoil_a_head(packet: &mut [u8], random: &mut Random) {
+pub fn spoil_a_lead(packet: &mut [u8], random: &mut Random) {
     match random.below(6) {
         0 => packet[random.below(3)] = random.special(),
         1 => packet[3 + random.below(2)] = random.pick(&[0, 1, 2, 0xFF]),
@@ -343,8 +343,8 @@ pub fn spoil_a_head(packet: &mut [u8], random: &mut Random) {
 pub fn long_listing_input(random: &mut Random, packets: usize, tail: &[u8]) -> Vec<u8> {
     let streams = FAMILIES.map(|family| stream(family, random, packets / 3 + 1));
     let mut input = Vec::new();
-    for place in 0..packets {
-        let (port, byte) = (place % 3, streams[place % 3][place / 3]);
+    for order in 0..packets {
+        let (port, byte) = (order % 3, streams[order % 3][order / 3]);
         input.extend(packet::packet(port as u8 + 1, &[byte]));
     }
     input.extend(tail);

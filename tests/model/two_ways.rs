@@ -4,7 +4,7 @@
 
 use crate::random::Random;
 use crate::streams::{self, Family};
-use right::{by_packet, comlynx, eversolar, fronius, lines, listing, Event, Reading};
+use right::{by_packet, comlynx, eversolar, fronius, lines, listing, number, Event, Reading};
 
 /// What was told, and after how many bytes of the stream.
 type Told = (usize, String);
@@ -44,16 +44,16 @@ pub fn disagree(family: Family, random: &mut Random) -> Option<String> {
 
 fn of_comlynx(message: &comlynx::Message) -> String {
     let (from, to) = (message.source, message.destination);
-    format!("{from} {to} {} {:?}", message.kind, message.data)
+    format!("{from} {to} {} {:?}", message.kind, message.payload)
 }
 
 fn of_eversolar(message: &eversolar::Message) -> String {
     let (from, to) = (message.source, message.destination);
-    format!("{from:?} {to:?} {} {} {:?}", message.control, message.function, message.data)
+    format!("{from:?} {to:?} {} {} {:?}", message.control, message.function, message.payload)
 }
 
 fn of_fronius(message: &fronius::Message) -> String {
-    format!("{} {} {} {:?}", message.device, message.number, message.command, message.data)
+    format!("{} {} {} {:?}", message.device, message.number, message.command, message.payload)
 }
 
 fn told<M>(events: Vec<Event<M>>, words: fn(&M) -> String) -> Vec<Told> {
@@ -72,17 +72,17 @@ fn pieces<M>(
     mut read: impl FnMut(&[u8], &mut [u8]) -> Reading<M>,
     words: fn(&M) -> String,
 ) -> Vec<Told> {
-    let (mut told, mut place, mut piece_end) = (Vec::new(), 0, 0);
-    while place < stream.len() {
-        if place == piece_end {
-            piece_end = stream.len().min(place + random.between(1, longest_piece));
+    let (mut told, mut position, mut piece_end) = (Vec::new(), 0, 0);
+    while position < stream.len() {
+        if position == piece_end {
+            piece_end = stream.len().min(position + random.between(1, longest_piece));
         }
-        let reading = read(&stream[place..piece_end], &mut [0; 255]);
-        place += reading.used;
+        let reading = read(&stream[position..piece_end], &mut [0; 255]);
+        position += reading.used;
         match (reading.number, reading.message) {
-            (0, _) => {}
-            (_, Some(message)) => told.push((place, words(&message))),
-            (damage, None) => told.push((place, format!("damage {damage}"))),
+            (number::DONE, _) => {}
+            (_, Some(message)) => told.push((position, words(&message))),
+            (damage, None) => told.push((position, format!("damage {damage}"))),
         }
     }
     told
@@ -100,13 +100,13 @@ pub fn listings_disagree(random: &mut Random) -> Option<String> {
 fn listed_by_packet(input: &[u8], random: &mut Random) -> Vec<u8> {
     let mut listing = by_packet::fresh();
     let mut text = lines::HEADER.as_bytes().to_vec();
-    let (mut place, mut at_hand) = (0, 0);
+    let (mut position, mut at_hand) = (0, 0);
     loop {
         let mut lent = [0; by_packet::LEAST_LENT];
         let ended = at_hand == input.len();
-        let step = by_packet::next(&mut listing, ended, &input[place..at_hand], &mut lent);
+        let step = by_packet::next(&mut listing, ended, &input[position..at_hand], &mut lent);
         text.extend(&lent[..step.wrote]);
-        place += step.used;
+        position += step.used;
         match step.came {
             1 => at_hand = input.len().min(at_hand + random.between(1, 300)),
             2 => {}
