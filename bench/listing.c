@@ -2,11 +2,11 @@
  * its state in a struct; input and output through buffers of 64 KiB, and a packet's bytes read where they lie. */
 #include "host.h"
 
-enum { BUFFER = 65536, PACKETS = 65536, HEAD = 7, LINE_MAX = 240 };
+enum { BUFFER = 65536, PACKETS = 65536, LEAD = 7, PIECE_MAX = 240 };
 
 /* ---- output: a buffer, and what was counted */
 
-enum { TEXT_MAX = 544 }; /* no line of text is longer: 255 data bytes are 510 digits */
+enum { TEXT_MAX = 544 }; /* no line of text is longer: 255 bytes of payload are 510 digits */
 
 struct listing {
     u8 text[BUFFER];
@@ -85,7 +85,7 @@ static u8 *put_field(u8 *p, const u8 *s, size n)
 }
 
 static void message(struct listing *l, char port, const u8 *from, size from_len, const u8 *to, const u8 *code, size code_len,
-                    const u8 *data, size len)
+                    const u8 *payload, size len)
 {
     u8 *p = line_at(l);
     *p++ = (u8)port;
@@ -94,7 +94,7 @@ static void message(struct listing *l, char port, const u8 *from, size from_len,
     p = put_field(p, from, from_len);
     p = put_field(p, to, 2);
     p = put_field(p, code, code_len);
-    p = put_field(p, data, len);
+    p = put_field(p, payload, len);
     line_ends(l, p);
     l->messages++;
 }
@@ -158,10 +158,10 @@ static void comlynx_close(struct comlynx *r, struct listing *l)
     r->count = 0;
 }
 
-static void comlynx_take(struct comlynx *r, const u8 *line, size n, struct listing *l)
+static void comlynx_take(struct comlynx *r, const u8 *piece, size n, struct listing *l)
 {
     for (size i = 0; i < n; i++) {
-        u8 b = line[i];
+        u8 b = piece[i];
         switch (r->stage) {
         case CL_BEFORE:
             if (b == FLAG)
@@ -197,7 +197,7 @@ static void comlynx_take(struct comlynx *r, const u8 *line, size n, struct listi
 
 /* ---- Eversolar */
 
-enum { ES_HEADER = 7, ES_DATA = 255, ES_BODY = ES_HEADER + ES_DATA + 2 };
+enum { ES_HEADER = 7, ES_PAYLOAD = 255, ES_BODY = ES_HEADER + ES_PAYLOAD + 2 };
 enum { ES_LOOKING, ES_MARK_SEEN, ES_FRAME };
 
 struct eversolar {
@@ -220,10 +220,10 @@ static void eversolar_close(struct eversolar *r, struct listing *l)
         message(l, '2', s, 2, s + 2, s + 4, 2, s + ES_HEADER, n - ES_HEADER);
 }
 
-static void eversolar_take(struct eversolar *r, const u8 *line, size n, struct listing *l)
+static void eversolar_take(struct eversolar *r, const u8 *piece, size n, struct listing *l)
 {
     for (size i = 0; i < n; i++) {
-        u8 b = line[i];
+        u8 b = piece[i];
         switch (r->stage) {
         case ES_LOOKING:
             if (b == 0xaa)
@@ -252,11 +252,11 @@ static void eversolar_take(struct eversolar *r, const u8 *line, size n, struct l
 
 /* ---- Fronius */
 
-enum { FR_HEADER = 3, FR_DATA = 127, FR_BODY = FR_HEADER + FR_DATA + 1 };
+enum { FR_HEADER = 3, FR_PAYLOAD = 127, FR_BODY = FR_HEADER + FR_PAYLOAD + 1 };
 enum { FR_START, FR_FRAME };
 
 struct fronius {
-    u8 held[FR_BODY]; /* device, number, command, data, checksum */
+    u8 held[FR_BODY]; /* device, number, command, payload, checksum */
     u8 stage;
     size count; /* at the start the successive 80s seen, to 3; in a frame how many bytes are held */
     size whole; /* in a frame how many it has */
@@ -275,10 +275,10 @@ static void fronius_close(struct fronius *r, struct listing *l)
         message(l, '3', s, 0, s, s + 2, 1, s + FR_HEADER, n - FR_HEADER);
 }
 
-static void fronius_take(struct fronius *r, const u8 *line, size n, struct listing *l)
+static void fronius_take(struct fronius *r, const u8 *piece, size n, struct listing *l)
 {
     for (size i = 0; i < n; i++) {
-        u8 b = line[i];
+        u8 b = piece[i];
         switch (r->stage) {
         case FR_START:
             if (r->count < 3) {
@@ -317,30 +317,30 @@ struct readers {
 /* what is wrong with the packet at the front of n bytes; 0 where it is whole */
 static int refusal(const u8 *s, size n)
 {
-    if (n < HEAD)
+    if (n < LEAD)
         return BYTES_MISSING;
     if (s[0] != 'S' || s[1] != 'B' || s[2] != 'R')
         return WRONG_MARK;
     if (s[3] != 0 || s[4] != 1)
         return WRONG_VERSION;
-    if (s[5] < 1 || 3 < s[5] || s[6] < 1 || LINE_MAX < s[6])
+    if (s[5] < 1 || 3 < s[5] || s[6] < 1 || PIECE_MAX < s[6])
         return WRONG_PORT_OR_COUNT;
-    if (n - HEAD < s[6])
+    if (n - LEAD < s[6])
         return BYTES_MISSING;
     return 0;
 }
 
-static void take(struct readers *r, u8 port, const u8 *line, size n, struct listing *l)
+static void take(struct readers *r, u8 port, const u8 *piece, size n, struct listing *l)
 {
     switch (port) {
     case 1:
-        comlynx_take(&r->comlynx, line, n, l);
+        comlynx_take(&r->comlynx, piece, n, l);
         break;
     case 2:
-        eversolar_take(&r->eversolar, line, n, l);
+        eversolar_take(&r->eversolar, piece, n, l);
         break;
     default:
-        fronius_take(&r->fronius, line, n, l);
+        fronius_take(&r->fronius, piece, n, l);
     }
 }
 
@@ -378,8 +378,8 @@ static int list(struct input *in, struct readers *r, struct listing *l)
         const u8 *s = in->bytes + in->at;
         int wrong = n && packets == PACKETS ? TOO_MANY_PACKETS : refusal(s, n);
         if (wrong == 0) {
-            take(r, s[5], s + HEAD, s[6], l);
-            in->at += (size)(HEAD + s[6]);
+            take(r, s[5], s + LEAD, s[6], l);
+            in->at += (size)(LEAD + s[6]);
             packets++;
         } else if (wrong != BYTES_MISSING) {
             return wrong;

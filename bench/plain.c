@@ -106,8 +106,8 @@ static int comlynx_step(struct comlynx *r, const u8 *piece, size n, u8 *lent, si
 
 /* ---- Eversolar */
 
-enum { ES_HEADER = 7, ES_DATA = 255, ES_BODY = ES_HEADER + ES_DATA + 1 };
-enum { ES_LOOKING, ES_MARK_SEEN, ES_HEAD, ES_FRAME };
+enum { ES_HEADER = 7, ES_PAYLOAD = 255, ES_BODY = ES_HEADER + ES_PAYLOAD + 1 };
+enum { ES_LOOKING, ES_MARK_SEEN, ES_IN_LEAD, ES_FRAME };
 
 struct eversolar {
     u8 held[ES_BODY]; /* the bytes since AA 55; the last one of a frame is not held */
@@ -127,10 +127,10 @@ static int eversolar_in_range(const struct eversolar *r)
     case ES_LOOKING:
     case ES_MARK_SEEN:
         return r->count == 0 && r->len == 0;
-    case ES_HEAD:
+    case ES_IN_LEAD:
         return r->count < ES_HEADER && r->len == 0;
     case ES_FRAME:
-        return r->len <= ES_DATA && ES_HEADER <= r->count && r->count <= ES_HEADER + r->len + 1;
+        return r->len <= ES_PAYLOAD && ES_HEADER <= r->count && r->count <= ES_HEADER + r->len + 1;
     default:
         return 0;
     }
@@ -173,11 +173,11 @@ static int eversolar_step(struct eversolar *r, const u8 *piece, size n, u8 *lent
             break;
         case ES_MARK_SEEN:
             if (b == 0x55)
-                r->stage = ES_HEAD;
+                r->stage = ES_IN_LEAD;
             else if (b != 0xaa)
                 r->stage = ES_LOOKING;
             break;
-        case ES_HEAD:
+        case ES_IN_LEAD:
             r->held[r->count++] = b;
             if (r->count == ES_HEADER) {
                 r->stage = ES_FRAME;
@@ -203,11 +203,11 @@ static int eversolar_step(struct eversolar *r, const u8 *piece, size n, u8 *lent
 
 /* ---- Fronius */
 
-enum { FR_HEADER = 3, FR_DATA = 127, FR_BODY = FR_HEADER + FR_DATA };
+enum { FR_HEADER = 3, FR_PAYLOAD = 127, FR_BODY = FR_HEADER + FR_PAYLOAD };
 enum { FR_START, FR_FRAME };
 
 struct fronius {
-    u8 held[FR_BODY]; /* device, number, command, data */
+    u8 held[FR_BODY]; /* device, number, command, payload */
     u8 stage;
     size count; /* at the start the successive 80s seen, to 3; in a frame how many bytes are held */
     size len;   /* in a frame the length read */
@@ -224,7 +224,7 @@ static int fronius_in_range(const struct fronius *r)
     case FR_START:
         return r->count <= 3 && r->len == 0;
     case FR_FRAME:
-        return r->len <= FR_DATA && r->count <= FR_HEADER + r->len;
+        return r->len <= FR_PAYLOAD && r->count <= FR_HEADER + r->len;
     default:
         return 0;
     }
@@ -304,11 +304,11 @@ static size piece_end(size at, size end, size piece, size len)
     return piece < len - at ? at + piece : len;
 }
 
-static size checked(size check, u8 code, const u8 *data, size n)
+static size checked(size check, u8 code, const u8 *payload, size n)
 {
     size sum = 0;
     for (size i = 0; i < n; i++)
-        sum += data[i];
+        sum += payload[i];
     return check * 3 + code + sum;
 }
 

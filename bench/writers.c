@@ -20,7 +20,7 @@ static struct written done(size length)
 
 /* ---- ComLynx */
 
-enum { CL_HEADER = 8, CL_DATA = 255, CL_BODY = CL_HEADER + CL_DATA + 2 };
+enum { CL_HEADER = 8, CL_PAYLOAD = 255, CL_BODY = CL_HEADER + CL_PAYLOAD + 2 };
 enum { FLAG = 0x7e, ESCAPE = 0x7d };
 
 #include "checksum.h"
@@ -31,11 +31,11 @@ static int special(u8 b)
 }
 
 /* The body is put together first, since its checksum may take stuffing and the exact length is tested before anything is stored. */
-static struct written comlynx_write(u16 source, u16 destination, u8 kind, const u8 *data, size n, u8 *to, size room)
+static struct written comlynx_write(u16 source, u16 destination, u8 kind, const u8 *payload, size n, u8 *to, size room)
 {
     u8 body[CL_BODY];
     size len = CL_HEADER + n + 2, frame = len + 2;
-    if (CL_DATA < n)
+    if (CL_PAYLOAD < n)
         return refused(TOO_LONG);
     body[0] = 0xff;
     body[1] = 0x03;
@@ -45,7 +45,7 @@ static struct written comlynx_write(u16 source, u16 destination, u8 kind, const 
     body[5] = (u8)destination;
     body[6] = (u8)n;
     body[7] = kind;
-    memcpy(body + CL_HEADER, data, n);
+    memcpy(body + CL_HEADER, payload, n);
     u16 sum = checksum(body, CL_HEADER + n);
     body[CL_HEADER + n] = (u8)sum;
     body[CL_HEADER + n + 1] = (u8)(sum >> 8);
@@ -68,12 +68,12 @@ static struct written comlynx_write(u16 source, u16 destination, u8 kind, const 
 
 /* ---- Eversolar */
 
-enum { ES_FRONT = 9, ES_DATA = 255 };
+enum { ES_LEAD = 9, ES_PAYLOAD = 255 };
 
-static struct written eversolar_write(const u8 source[2], const u8 destination[2], u8 control, u8 function, const u8 *data, size n, u8 *to, size room)
+static struct written eversolar_write(const u8 source[2], const u8 destination[2], u8 control, u8 function, const u8 *payload, size n, u8 *to, size room)
 {
-    size frame = ES_FRONT + n + 2;
-    if (ES_DATA < n)
+    size frame = ES_LEAD + n + 2;
+    if (ES_PAYLOAD < n)
         return refused(TOO_LONG);
     if (room < frame)
         return refused(NO_ROOM);
@@ -86,23 +86,23 @@ static struct written eversolar_write(const u8 source[2], const u8 destination[2
     to[6] = control;
     to[7] = function;
     to[8] = (u8)n;
-    memcpy(to + ES_FRONT, data, n);
+    memcpy(to + ES_LEAD, payload, n);
     u32 sum = 0;
-    for (size i = 0; i < ES_FRONT + n; i++)
+    for (size i = 0; i < ES_LEAD + n; i++)
         sum += to[i];
-    to[ES_FRONT + n] = (u8)(sum >> 8);
-    to[ES_FRONT + n + 1] = (u8)sum;
+    to[ES_LEAD + n] = (u8)(sum >> 8);
+    to[ES_LEAD + n + 1] = (u8)sum;
     return done(frame);
 }
 
 /* ---- Fronius */
 
-enum { FR_START = 3, FR_FRONT = FR_START + 4, FR_DATA = 127 };
+enum { FR_START = 3, FR_LEAD = FR_START + 4, FR_PAYLOAD = 127 };
 
-static struct written fronius_write(u8 device, u8 number, u8 command, const u8 *data, size n, u8 *to, size room)
+static struct written fronius_write(u8 device, u8 number, u8 command, const u8 *payload, size n, u8 *to, size room)
 {
-    size frame = FR_FRONT + n + 1;
-    if (FR_DATA < n)
+    size frame = FR_LEAD + n + 1;
+    if (FR_PAYLOAD < n)
         return refused(TOO_LONG);
     if (room < frame)
         return refused(NO_ROOM);
@@ -113,11 +113,11 @@ static struct written fronius_write(u8 device, u8 number, u8 command, const u8 *
     to[4] = device;
     to[5] = number;
     to[6] = command;
-    memcpy(to + FR_FRONT, data, n);
+    memcpy(to + FR_LEAD, payload, n);
     u8 sum = 0;
-    for (size i = FR_START; i < FR_FRONT + n; i++)
+    for (size i = FR_START; i < FR_LEAD + n; i++)
         sum = (u8)(sum + to[i]);
-    to[FR_FRONT + n] = sum;
+    to[FR_LEAD + n] = sum;
     return done(frame);
 }
 
@@ -133,39 +133,39 @@ static size told(struct written w, const u8 *lent, size room, size look)
     return w.length + (look < room ? lent[look] : 0);
 }
 
-static size comlynx_frames(size times, const u8 *data, size n, u8 *lent, size room, size look)
+static size comlynx_frames(size times, const u8 *payload, size n, u8 *lent, size room, size look)
 {
     size sum = 0;
     for (size k = 0; k < times; k++)
-        sum += told(comlynx_write((u16)k, 0x11ff, 0x15, data, n, lent, room), lent, room, look);
+        sum += told(comlynx_write((u16)k, 0x11ff, 0x15, payload, n, lent, room), lent, room, look);
     return sum;
 }
 
-static size eversolar_frames(size times, const u8 *data, size n, u8 *lent, size room, size look)
+static size eversolar_frames(size times, const u8 *payload, size n, u8 *lent, size room, size look)
 {
     static const u8 master[2] = {1, 0};
     size sum = 0;
     for (size k = 0; k < times; k++) {
         u8 destination[2] = {(u8)(k >> 8), (u8)k};
-        sum += told(eversolar_write(master, destination, 0x11, 0x02, data, n, lent, room), lent, room, look);
+        sum += told(eversolar_write(master, destination, 0x11, 0x02, payload, n, lent, room), lent, room, look);
     }
     return sum;
 }
 
-static size fronius_frames(size times, const u8 *data, size n, u8 *lent, size room, size look)
+static size fronius_frames(size times, const u8 *payload, size n, u8 *lent, size room, size look)
 {
     size sum = 0;
     for (size k = 0; k < times; k++)
-        sum += told(fronius_write(1, (u8)(k >> 8), (u8)k, data, n, lent, room), lent, room, look);
+        sum += told(fronius_write(1, (u8)(k >> 8), (u8)k, payload, n, lent, room), lent, room, look);
     return sum;
 }
 
 /* each checksum goes on from the one before, so that none can be left out */
-static size checksums(size times, const u8 *data, size n)
+static size checksums(size times, const u8 *bytes, size n)
 {
     u16 state = 0xffff;
     for (size k = 0; k < times; k++)
-        state = fcs_more(state, data, n);
+        state = fcs_more(state, bytes, n);
     return state;
 }
 
