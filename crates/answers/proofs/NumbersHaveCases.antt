@@ -6,6 +6,8 @@ use mathlib.Core.List.{List, [], _∷_, map, head-eq-of-cons-eq, tail-eq-of-cons
 use lib.ListN.{length, getD}
 use native.Mathlib.Nat.{add-zero, add-suc, suc-add, le-of-suc-le-suc, not-suc-le-zero}
 use native.Mathlib.Omega.{arith}
+use Rattle.numbers.proofs.Alike.{alike-by-back}
+use Rattle.answers.specs.Answer.{Answer, answer}
 use Rattle.answers.specs.Refusal as Refusal
 use Rattle.answers.specs.Damage as Damage
 use Rattle.answers.specs.Written as Written
@@ -99,27 +101,35 @@ damages = record {
     case WrongLengthByte = refl
 
 -- told alike is one: by the way back
-told-alike : {A : Type 0} {told : A → ℕ} {low high : ℕ} → Numbers told low high → (a b : A) → told a ≡ told b → a ≡ b
-told-alike n a b e = sym (n .case a) ∙ ap (n .back) e ∙ n .case b
-
 pub refusal-alike : (a b : Refusal) → Refusal.number a ≡ Refusal.number b → a ≡ b
-refusal-alike = told-alike refusals
+refusal-alike = alike-by-back Refusal.number (refusals .back) (refusals .case)
 
 pub damage-alike : (a b : Damage) → Damage.number a ≡ Damage.number b → a ≡ b
-damage-alike = told-alike damages
+damage-alike = alike-by-back Damage.number (damages .back) (damages .case)
 
 -- a refusal's number is not 0, and no damage has it
 pub refusal-above : (r : Refusal) → 8 ≤ Refusal.number r
 refusal-above r = refusals .within r .0
 
+-- The way back from what a call tells: with 0 the other numbers say what was done, and any other number is a refusal's
+abbrev pub heard : {A : Type 0} → (List ℕ → A) → (Refusal → A) → Answer → A
+heard done refused (answer zero others) = done others
+heard done refused (answer (suc n) others) = refused (refusals .back (suc n))
+
+pub heard-refused : {A : Type 0} (done : List ℕ → A) (refused : Refusal → A) (others : List ℕ) (why : Refusal)
+    → heard done refused (answer (Refusal.number why) others) ≡ refused why
+heard-refused done refused others why = go (Refusal.number why) (refusal-above why) ∙ ap refused (refusals .case why)
+  where
+    go : (n : ℕ) → 8 ≤ n → heard done refused (answer n others) ≡ refused (refusals .back n)
+    go zero h = absurd (omega arith)
+    go (suc n) h = refl
+
 pub written-alike : (a b : Written) → Written.told a ≡ Written.told b → a ≡ b
-written-alike (Done m) (Done n) e = cc
-written-alike (Done m) (Refused r) e =
-    let zero-told : 0 ≡ Refusal.number r = cc in
-    absurd (omega (arith, refusal-above r))
-written-alike (Refused r) (Done n) e =
-    let zero-told : Refusal.number r ≡ 0 = cc in
-    absurd (omega (arith, refusal-above r))
-written-alike (Refused r) (Refused s) e =
-    let same : Refusal.number r ≡ Refusal.number s = cc in
-    ap Refused (refusal-alike r s same)
+written-alike = alike-by-back Written.told (heard done Refused) there
+  where
+    done : List ℕ → Written
+    done others = Done (getD others 0 0)
+
+    there : (a : Written) → heard done Refused (Written.told a) ≡ a
+    there (Done n) = refl
+    there (Refused why) = heard-refused done Refused (0 ∷ []) why
