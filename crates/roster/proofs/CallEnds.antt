@@ -116,22 +116,22 @@ module _ (b : List ℕ) (address : ℕ) where
 module _ (b serial : List ℕ) where
   pub find-spoilt : spoilt (placesOf b) ≡ true → IsFound b serial (Found.Refused Spoilt)
   unfolding finding
-  find-spoilt e = simp e
+  find-spoilt e = (simp e, tt)
 
   pub find-unfit : spoilt (placesOf b) ≡ false → (length serial ≡ serialSize → ⊥) → IsFound b serial (Found.Refused NotForThisCall)
   unfolding finding unfit
-  find-unfit e h = simp (e, ne-eqb _ _ h)
+  find-unfit e h = (simp (e, ne-eqb _ _ h), tt)
 
   module _ (sized : length b ≡ rosterSize) (e : spoilt (placesOf b) ≡ false) (h : length serial ≡ serialSize) where
-    pub find-none : (k : ℕ) → k ≡ 0 + first (usedBy serial) (drop 0 (placesOf b)) → k ≡ places → IsFound b serial (Found.Address 0)
+    pub find-none : (k : ℕ) → k ≡ 0 + first (usedBy serial) (drop 0 (placesOf b)) → k ≡ places → IsFound b serial Found.NoAddress
     unfolding finding unfit
     find-none k f l =
         let nowhere : eqb (first (usedBy serial) (placesOf b)) (length (placesOf b)) ≡ true = eq-eqb _ _ (sym (f ∙ zero-add _) ∙ l ∙ sym (count-places places b sized)) in
-        simp (e, eq-eqb _ _ h, nowhere)
+        (simp (e, eq-eqb _ _ h, nowhere), tt)
 
     pub find-there : (k : ℕ) → k ≡ 0 + first (usedBy serial) (drop 0 (placesOf b)) → (k ≡ places → ⊥) → IsFound b serial (Found.Address (k + 1))
     unfolding finding unfit
     find-there k f l =
         let is : k ≡ first (usedBy serial) (placesOf b) = f ∙ zero-add _ in
         let here : eqb (first (usedBy serial) (placesOf b)) (length (placesOf b)) ≡ false = ne-eqb _ _ (λ q. l (is ∙ q ∙ count-places places b sized)) in
-        simp (e, eq-eqb _ _ h, here, is)
+        (simp (e, eq-eqb _ _ h, here, is), omega arith)

@@ -17,10 +17,12 @@ use Rattle.roster.specs.Calls.{toldGiven, IsGiven}
 use Rattle.roster.specs.Demands.{freshRoster, GivenIsFound, GivenTwice, LowestFree, RemovedIsGiven, Fills, addressesFrom, NeverSpoilt, StaysWellFormed, Kept}
 use Rattle.roster.specs.declared.Place.{Place}
 use Rattle.roster.specs.declared.Given.{Given}
+use Rattle.roster.specs.declared.Found.the-variants as Found
 use Rattle.roster.proofs.PlacesInBytes.{bytes-places, places-bytes}
 use Rattle.roster.proofs.SoundTest.{Fine, not-spoilt, fine, sound-whole}
 use Rattle.roster.proofs.RosterRule.{no, first-found, some-pass, fine-free, freed-gone}
 use Rattle.roster.proofs.AnswerSays.{giving-of, giving-fits, gave-there, giving-fine, removing-fine, giving-refused, removing-refused, giving-18, removing-18, finding-18, finding-there, finding-of, removing-of}
+use Rattle.roster.proofs.One.{found-alike}
 use Rattle.roster.proofs.FillsFromFront.{filling, filled, giving-full, told-over, fresh, fine-fresh}
 
 -- the places that a sound list's bytes hold
@@ -49,10 +51,11 @@ after roster serial later g address p t =
 pub given-is-found : GivenIsFound
 given-is-found roster serial later g f address p t q =
     let a = after roster serial later g address p t in
-    q
-    ∙ ap (λ (ps : List Place). finding ps serial) (a .holds)
+    let found =
+    ap (λ (ps : List Place). finding ps serial) (a .holds)
     ∙ finding-there (a .ps) serial (a .all) (a .fits) (a .there)
-    ∙ ap (λ (n : ℕ). answer 0 (n ∷ [])) (a .at)
+    ∙ ap (λ (n : ℕ). answer 0 (n ∷ [])) (a .at) in
+    found-alike f (Found.Address address) (q .1) (omega (arith, a .at)) (q .0 ∙ found)
 
 giving-there : (ps : List Place) (s : List ℕ) → Fine ps → length s ≡ serialSize → none (usedBy s) ps ≡ false → giving ps s ≡ (answer 0 ((first (usedBy s) ps + 1) ∷ []), ps)
 unfolding givingSound
@@ -97,7 +100,7 @@ not-above ps k e m = go (ltb k (first free ps)) refl
 pub removed-is-given : RemovedIsGiven
 removed-is-given roster serial later last f r g address pf tf pr tr pg =
     let ps : List Place = placesOf roster in
-    let found = finding-of ps serial address (sym pf ∙ tf) in
+    let found = finding-of ps serial address (sym (pf .0) ∙ tf) in
     let gone = removing-of ps address (sym (pr .0) ∙ tr) in
     let there = found .there (gone .0 .above) in
     let k : ℕ = first (usedBy serial) ps in
@@ -135,7 +138,7 @@ pub never-spoilt : NeverSpoilt
 never-spoilt = record {
   given = λ roster serial later g p. swapped (p .0) (giving-18 (placesOf roster) serial);
   removed = λ roster later address r p. swapped (p .0) (removing-18 (placesOf roster) address);
-  found = λ roster serial f p. swapped p (finding-18 (placesOf roster) serial);
+  found = λ roster serial f p. swapped (p .0) (finding-18 (placesOf roster) serial);
 }
 
 well : (ps : List Place) (later : List ℕ) → Fine ps → later ≡ bytesOf ps → spoilt (placesOf later) ≡ false

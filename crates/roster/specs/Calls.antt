@@ -1,5 +1,5 @@
 -- What the calls tell, and what they promise of their arguments, their results and the roster afterwards.
-use Prim.Native.Nat.{ℕ}
+use Prim.Native.Nat.{ℕ, _≤_}
 use mathlib.Core.Path.{_≡_}
 use mathlib.Core.List.{List, [], _∷_}
 use Rattle.answers.specs.Answer.{Answer, answer}
@@ -23,6 +23,7 @@ toldRemoved (Removed.Refused why) = refused 0 why
 
 abbrev pub toldFound : Found → Answer
 toldFound (Found.Address address) = answer 0 (address ∷ [])
+toldFound Found.NoAddress = answer 0 (0 ∷ [])
 toldFound (Found.Refused why) = refused 1 why
 
 -- `give`
@@ -35,6 +36,12 @@ abbrev pub IsRemoved : List ℕ → ℕ → Removed → List ℕ → Type 0
 IsRemoved roster address r later =
     (toldRemoved r ≡ removing (placesOf roster) address .0) × (later ≡ bytesOf (removing (placesOf roster) address .1))
 
+-- 0 is no address, so that 0 is told of `NoAddress` alone
+abbrev pub AddressNotZero : Found → Type 0
+AddressNotZero (Found.Address address) = 1 ≤ address
+AddressNotZero Found.NoAddress = Unit {0}
+AddressNotZero (Found.Refused why) = Unit {0}
+
 -- `find`
 abbrev pub IsFound : List ℕ → List ℕ → Found → Type 0
-IsFound roster serial r = toldFound r ≡ finding (placesOf roster) serial
+IsFound roster serial r = (toldFound r ≡ finding (placesOf roster) serial) × AddressNotZero r

@@ -18,6 +18,7 @@ use Rattle.roster.specs.declared.Given.the-variants as Given
 use Rattle.roster.specs.declared.Removed.{Removed}
 use Rattle.roster.specs.declared.Removed.the-variants as Removed
 use Rattle.roster.specs.declared.Found.{Found}
+use Rattle.roster.specs.declared.Found.the-variants as Found
 
 -- Giving, then finding, gives that address.
 abbrev pub GivenIsFound : Type 0
@@ -26,7 +27,7 @@ GivenIsFound =
     → IsGiven roster serial g later
     → toldGiven g ≡ answer 0 (address ∷ [])
     → IsFound later serial f
-    → toldFound f ≡ answer 0 (address ∷ [])
+    → f ≡ Found.Address address
 
 -- Giving twice gives the same, and the second time changes nothing.
 abbrev pub GivenTwice : Type 0

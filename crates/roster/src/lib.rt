@@ -50,8 +50,11 @@ pub enum Removed {
 
 // What looking for a serial came to.
 pub enum Found {
-    // the address that it has, 0 where it has none
+    // the address that it has
     Address(u8),
+    // it has none
+    NoAddress,
+    // the roster could not be searched for it
     Refused(Refusal),
 }
 
@@ -235,7 +238,7 @@ pub fn find(roster: &[u8], serial: &[u8]) -> Found
     }
     let k = user(roster, 0, serial);
     if k == PLACES {
-        return Found::Address(0);
+        return Found::NoAddress;
     }
     Found::Address((k + 1) as u8)
 }

@@ -21,5 +21,5 @@ same-answers = record {
         removed-alike q r (x .0 ∙ sym (y .0 ∙ ap (λ (l : List Place). removing l address .0) e)),
         ap bytesOf (x .1) ∙ sym (y .1 ∙ ap (λ (l : List Place). bytesOf (removing l address .1)) e),
       ));
-  found = λ ps serial e f w x y. found-alike e f (x ∙ sym (y ∙ ap (λ (l : List Place). finding l serial) (places-bytes ps w)));
+  found = λ ps serial e f w x y. found-alike e f (x .1) (y .1) (x .0 ∙ sym (y .0 ∙ ap (λ (l : List Place). finding l serial) (places-bytes ps w)));
 }

@@ -19,7 +19,7 @@ pub remove-one : (ps a b : List Place) (address : ℕ) (q r : Removed) → IsRem
 remove-one ps a b address q r x y = (removed-alike q r (x .0 ∙ sym (y .0)), x .1 ∙ sym (y .1))
 
 pub find-one : (ps : List Place) (serial : List ℕ) (e f : Found) → IsFound ps serial e → IsFound ps serial f → e ≡ f
-find-one ps serial e f x y = found-alike e f (x ∙ sym y)
+find-one ps serial e f x y = found-alike e f (x .1) (y .1) (x .0 ∙ sym (y .0))
 
 -- ---- over places that are held
 

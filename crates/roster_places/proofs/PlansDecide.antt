@@ -53,7 +53,7 @@ remove-miscounted n all address p h ps e held = (simp (miscounted ps n e h), unm
 
 pub find-miscounted : (n : ℕ) (all serial : List ℕ) → (n ≡ places → ⊥) → PlansFind n all serial (Found.Refused Spoilt)
 unfolding finding
-find-miscounted n all serial h ps e held = simp (miscounted ps n e h)
+find-miscounted n all serial h ps e held = (simp (miscounted ps n e h), tt)
 
 -- ---- refused
 
@@ -140,4 +140,4 @@ remove-done n all address later p m f g ps e held =
     (told, ap (set ps (address - 1)) f ∙ sym (removing-of ps address (sym told) .1))
 
 pub find-told : (n : ℕ) (all serial : List ℕ) (r : Found) → n ≡ places → Bytes.IsFound all serial r → PlansFind n all serial r
-find-told n all serial r m g ps e held = g ∙ ap (λ (l : List Place). finding l serial) (held m)
+find-told n all serial r m g ps e held = (g .0 ∙ ap (λ (l : List Place). finding l serial) (held m), g .1)

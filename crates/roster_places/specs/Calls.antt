@@ -4,7 +4,7 @@ use Prim.Native.Nat.{ℕ}
 use mathlib.Core.Path.{_≡_}
 use mathlib.Core.List.{List}
 use Rattle.roster.specs.Roster.{giving, removing, finding}
-use Rattle.roster.specs.Calls.{toldGiven, toldRemoved, toldFound}
+use Rattle.roster.specs.Calls.{toldGiven, toldRemoved, toldFound, AddressNotZero}
 use Rattle.roster.specs.declared.Place.{Place}
 use Rattle.roster.specs.declared.Given.{Given}
 use Rattle.roster.specs.declared.Removed.{Removed}
@@ -20,4 +20,4 @@ IsRemoved ps address r later = (toldRemoved r ≡ removing ps address .0) × (la
 
 -- `find`
 abbrev pub IsFound : List Place → List ℕ → Found → Type 0
-IsFound ps serial r = toldFound r ≡ finding ps serial
+IsFound ps serial r = (toldFound r ≡ finding ps serial) × AddressNotZero r

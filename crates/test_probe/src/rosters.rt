@@ -30,6 +30,7 @@ fn given_head(given: Given) -> [u8; HEAD] {
 fn found_head(found: Found) -> [u8; HEAD] {
     match found {
         Found::Address(address) => told(0, address as u64),
+        Found::NoAddress => told(0, 0),
         Found::Refused(why) => refused(why),
     }
 }
