@@ -60,7 +60,7 @@ fn energy(control: u8, function: u8, payload: &[u8]) -> [u8; HEAD] {
 fn wait(serial: u64, attempt: u8) -> [u8; HEAD] {
     let wait = eversolar_meaning::wait_of(serial, attempt);
     match wait {
-        Wait::Units(units) => told(0, units),
+        Wait::Intervals(intervals) => told(0, intervals),
         Wait::Refused(why) => refused(why),
     }
 }
