@@ -1,11 +1,11 @@
 -- The total energy of a reply 11/90.
 use Prim.Native.Nat.{ℕ, _+_, _*_}
 use mathlib.Core.Path.{_≡_}
-use mathlib.Core.Bool.{cond}
+use mathlib.Core.Bool.{_&&_}
 use mathlib.Core.List.{List, [], _∷_}
 use lib.ListN.{length, getD}
-use lib.Dec.{eqb, ltb}
-use Rattle.answers.specs.Answer.{Answer, answer}
+use lib.Dec.{eqb, leb}
+use Rattle.answers.specs.Answer.{Answer, answer, need}
 use Rattle.answers.specs.Refusal.{refused}
 use Rattle.answers.specs.declared.Refusal.the-variants.{NotForThisCall}
 use Rattle.eversolar_words.specs.Words.{word}
@@ -16,14 +16,11 @@ use Rattle.eversolar_meaning.specs.declared.energy.Energy.the-variants.{
 unfoldable pub item : List ℕ → ℕ → ℕ
 item payload k = word (getD payload (2 * k) 0) (getD payload (2 * k + 1) 0)
 
--- item 20 times 65,536 plus item 21, in tenths of a kWh; another control or function, or fewer than 44 data bytes: 17
+-- item 20 times 65,536 plus item 21, in tenths of a kWh. Another control or function, or fewer than 44 data bytes: 17
 unfoldable pub energyOf : ℕ → ℕ → List ℕ → Answer
 energyOf control function payload =
-    cond (eqb control 0x11)
-    (cond (eqb function 0x90)
-    (cond (ltb (length payload) 44) (refused 1 NotForThisCall) (answer 0 ((65536 * item payload 20 + item payload 21) ∷ [])))
-    (refused 1 NotForThisCall))
-    (refused 1 NotForThisCall)
+    need (eqb control 0x11 && eqb function 0x90 && leb 44 (length payload)) (refused 1 NotForThisCall)
+    (answer 0 ((65536 * item payload 20 + item payload 21) ∷ []))
 
 abbrev pub told : Energy → Answer
 told (Tenths n) = answer 0 (n ∷ [])

@@ -6,12 +6,14 @@ ghost use Prim.Native.Nat.{_+_, _*_, _<_, _≤_};
 ghost use lib.ListN.{length};
 ghost use Rattle.eversolar_meaning.specs.Energy.{item, IsEnergy};
 
+// The energy that an inverter has delivered in all.
 pub enum Energy {
-    // tenths of a kWh
+    // in tenths of a kWh
     Tenths(u32),
     Refused(Refusal),
 }
 
+// What a reply with the total energy says of itself.
 const CONTROL: u8 = 0x11;
 
 const FUNCTION: u8 = 0x90;

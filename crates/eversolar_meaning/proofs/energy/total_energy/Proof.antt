@@ -1,7 +1,7 @@
 use mathlib.Core.Path.{ap₂}
 use mathlib.Core.List.{[], _∷_}
 use Rattle.answers.specs.Answer.{answer}
-use borrow.Author.Tests.{lt-ltb, le-ltb, eq-eqb, ne-eqb}
+use borrow.Author.Tests.{lt-leb, le-leb, eq-eqb, ne-eqb}
 use Rattle.eversolar_meaning.specs.Energy.{energyOf}
 use Prim.Native.Nat.{ℕ, _+_, _*_}
 use borrow.Author.Needs.{needs}
@@ -18,7 +18,7 @@ returns-2 c = simp (eq-eqb _ _ (c .before .if1 .left), ne-eqb _ _ (c .if2 .taken
 
 returns-3 : tie.Need-returns-3
 unfolding energyOf
-returns-3 c = simp (eq-eqb _ _ (c .before .before .if1 .left), eq-eqb _ _ (c .before .if2 .left), lt-ltb _ _ (c .if3 .taken))
+returns-3 c = simp (eq-eqb _ _ (c .before .before .if1 .left), eq-eqb _ _ (c .before .if2 .left), lt-leb _ _ (c .if3 .taken))
 
 item-requires : tie.Need-item-requires
 item-requires c κs = search needs
@@ -42,7 +42,7 @@ returns-4 : tie.Need-returns-4
 unfolding energyOf
 returns-4 c =
     let e = c .before .before in
-    simp (eq-eqb _ _ (e .before .before .if1 .left), eq-eqb _ _ (e .before .if2 .left), le-ltb _ _ (e .if3 .left))
+    simp (eq-eqb _ _ (e .before .before .if1 .left), eq-eqb _ _ (e .before .if2 .left), le-leb _ _ (e .if3 .left))
     (ap₂ (λ (x y : ℕ). answer 0 ((65536 * x + y) ∷ [])) (c .before .item .ensures) (c .item2 .ensures))
 
 pub total-energy-spec : {M : Type 1} → statement M
