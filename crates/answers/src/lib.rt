@@ -13,7 +13,7 @@ pub enum Refusal {
     WrongMark,
     // 11: a packet of another version
     WrongVersion,
-    // 12: a packet's port or count
+    // 12: a packet's port or count, which no packet may have
     WrongPortOrCount,
     // 13: a packet whose bytes are not all there
     BytesMissing,
@@ -21,7 +21,7 @@ pub enum Refusal {
     RosterFull,
     // 15: an exponent above 10
     ExponentTooHigh,
-    // 16: an exponent below -3; an address that none may have, or that is free
+    // 16: an address that none may have or that is free, a part of an address that has too many bits, or an exponent below -3
     WrongAddressOrExponentTooLow,
     // 17: of another kind, size or attempt than the call is for
     NotForThisCall,
@@ -35,7 +35,7 @@ pub enum Refusal {
 pub enum Damage {
     // 2: an escape that is followed by neither of its two bytes
     BrokenPair,
-    // 3: a body of a length that no message has
+    // 3: a body's length, which no message has
     WrongBodyLength,
     // 4: a body that does not begin as every body does
     WrongStart,
@@ -43,7 +43,7 @@ pub enum Damage {
     WrongSize,
     // 6: a checksum that does not agree
     WrongSum,
-    // 7: a length that no message has
+    // 7: a length byte, which no message has
     WrongLengthByte,
 }
 
