@@ -17,7 +17,8 @@ use Rattle.answers.proofs.WriterPromise.{writes-nothing}
 use Rattle.answers.specs.declared.Refusal.the-variants.{WrongAddressOrExponentTooLow, NotForThisCall}
 use Rattle.eversolar.specs.Wire.{Message, payloadMax, wire}
 use Rattle.eversolar.specs.Writer.{WritesMessage}
-use Rattle.eversolar_requests.specs.Requests.{request, askAll, giveAddress, askOne, isAddress, isSerial, requesting, Requests, IsAskAll, IsAskOne, IsGiveAddress}
+use Rattle.numbers.specs.Addresses.{isAddress, isSerial}
+use Rattle.eversolar_requests.specs.Requests.{request, askAll, giveAddress, askOne, requesting, Requests, IsAskAll, IsAskOne, IsGiveAddress}
 use Rattle.eversolar_requests.specs.Inside.{IsCode}
 use Rattle.eversolar_requests.specs.declared.Code.{Code}
 use Rattle.eversolar_requests.specs.declared.ToAll.{ToAll}
@@ -92,7 +93,6 @@ module _ (serial : List ℕ) (address : ℕ) (lent : List ℕ) where
   gives-16 a = refused-16 (isAddress address) (isSerial serial) (giveAddress serial address) lent a
 
   pub gives-17 : isAddress address ≡ true → (length serial ≡ 16 → ⊥) → IsGiveAddress serial address lent (Refused NotForThisCall) lent
-  unfolding isSerial
   gives-17 a n = refused-17 (isAddress address) (isSerial serial) (giveAddress serial address) lent a (ne-eqb (length serial) 16 n)
 
   -- the data are the serial copied into 17 bytes, and the address behind it
@@ -103,7 +103,6 @@ module _ (serial : List ℕ) (address : ℕ) (lent : List ℕ) where
 
   pub gives : (d later : List ℕ) (w : Written) → isAddress address ≡ true → length serial ≡ 16 → d ≡ take (length serial) serial ++ drop (length serial) (replicate 17 0)
       → WritesMessage (request 0 0x10 0x01 (set d 16 address)) lent w later → IsGiveAddress serial address lent w later
-  unfolding isSerial
   gives d later w a e c h =
       requested (isAddress address) (isSerial serial) (giveAddress serial address) lent later w a (eq-eqb (length serial) 16 e) (simp length-append (omega arith))
       (subst (λ (l : List ℕ). WritesMessage (request 0 0x10 0x01 l) lent w later) (put d e c) h)

@@ -7,7 +7,8 @@ use mathlib.Core.List.{List}
 use Rattle.answers.specs.declared.Written.{Written}
 use Rattle.answers.proofs.NumbersHaveCases.{written-alike}
 use Rattle.eversolar.specs.Wire.{Message}
-use Rattle.eversolar_requests.specs.Requests.{askAll, giveAddress, askOne, isAddress, isSerial, Requests, IsAskAll, IsAskOne, IsGiveAddress}
+use Rattle.numbers.specs.Addresses.{isAddress, isSerial}
+use Rattle.eversolar_requests.specs.Requests.{askAll, giveAddress, askOne, Requests, IsAskAll, IsAskOne, IsGiveAddress}
 use Rattle.eversolar_requests.specs.declared.ToAll.{ToAll}
 use Rattle.eversolar_requests.specs.declared.ToOne.{ToOne}
 

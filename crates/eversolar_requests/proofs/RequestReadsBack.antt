@@ -19,7 +19,8 @@ use Rattle.stream.proofs.BytesOfParts.{bytes-cons, bytes-append}
 use Rattle.eversolar.specs.Wire.{Message, Takes, payloadMax, wire}
 use Rattle.eversolar.specs.Machine.{fresh}
 use Rattle.eversolar.specs.Reader.{IsStep}
-use Rattle.eversolar_requests.specs.Requests.{request, askAll, giveAddress, askOne, isAddress, isSerial, IsAskAll, IsAskOne, IsGiveAddress}
+use Rattle.numbers.specs.Addresses.{isAddress, isSerial}
+use Rattle.eversolar_requests.specs.Requests.{request, askAll, giveAddress, askOne, IsAskAll, IsAskOne, IsGiveAddress}
 use Rattle.eversolar.specs.Demands.{eversolar}
 use Rattle.eversolar_requests.specs.declared.ToAll.{ToAll}
 use Rattle.eversolar_requests.specs.declared.ToAll.the-variants.{OffLine, Reconnect, ReRegister}
@@ -61,7 +62,6 @@ and-right true b e = e
 and-right false b e = zero-is-one cc
 
 address-byte : (address : ℕ) → isAddress address ≡ true → address < 256
-unfolding isAddress
 address-byte address e = omega (arith, leb-true address 254 (and-right (leb 1 address) (leb address 254) e))
 
 pub ask-one-reads-back : (what : ToOne) (address : ℕ) (room frame : List ℕ) (w : Written) (n : ℕ) → IsAskOne what address room w frame → lengthOf w ≡ some n
@@ -79,7 +79,6 @@ ask-one-reads-back what address room frame w n h e =
 
 pub give-address-reads-back : (serial : List ℕ) (address : ℕ) (room frame : List ℕ) (w : Written) (n : ℕ) → T (areBytes serial) → IsGiveAddress serial address room w frame → lengthOf w ≡ some n
     → ReadsAs (giveAddress serial address) frame n
-unfolding isSerial
 give-address-reads-back serial address room frame w n g h e =
     let x = wrote (isAddress address) (isSerial serial) (giveAddress serial address) room frame w n h e in
     let small = address-byte address (x .addressed) in

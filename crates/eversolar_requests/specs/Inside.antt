@@ -1,4 +1,4 @@
--- What the inner functions promise. No public promise cites this.
+-- What the inner functions promise. No public promise cites this, so it need not be read.
 use mathlib.Core.Path.{_≡_}
 use Rattle.eversolar.specs.Wire.{Message}
 use Rattle.eversolar_requests.specs.declared.Code.{Code}

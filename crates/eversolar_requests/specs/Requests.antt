@@ -1,11 +1,10 @@
 -- The master's requests: which message each writes, and what is refused.
 use Prim.Native.Nat.{ℕ}
 use mathlib.Core.Path.{_≡_}
-use mathlib.Core.Bool.{Bool, true, false, cond, _&&_}
+use mathlib.Core.Bool.{Bool, true, false}
 use mathlib.Core.List.{List, [], _∷_, _++_}
-use lib.ListN.{length}
-use lib.Dec.{eqb, leb}
-use Rattle.answers.specs.Answer.{Answer}
+use Rattle.numbers.specs.Addresses.{isAddress, isSerial}
+use Rattle.answers.specs.Answer.{Answer, need}
 use Rattle.answers.specs.Refusal.{refused}
 use Rattle.answers.specs.Written.{told, writing}
 use Rattle.answers.specs.declared.Refusal.the-variants.{WrongAddressOrExponentTooLow, NotForThisCall}
@@ -46,19 +45,12 @@ askOne Identity address = request address 0x11 0x03 []
 askOne Settings address = request address 0x11 0x04 []
 askOne FixedSize address = request address 0x11 0x10 []
 
--- an address is 1 to 254, a serial is 16 bytes
-unfoldable pub isAddress : ℕ → Bool
-isAddress address = leb 1 address && leb address 254
-
-unfoldable pub isSerial : List ℕ → Bool
-isSerial serial = eqb (length serial) 16
-
--- REQUEST BUILDERS TEST 16, THEN 17, THEN 9: what is told, and the lent buffer afterwards
+-- REQUEST BUILDERS TEST 16 (an address is 1 to 254), THEN 17 (a serial is 16 bytes), THEN 9: what is told, and the lent buffer afterwards
 unfoldable pub requesting : Bool → Bool → Message → List ℕ → Answer × List ℕ
 requesting address serial m lent =
-    cond address
-    (cond serial (writing false (wire m) lent) (refused 1 NotForThisCall, lent))
-    (refused 1 WrongAddressOrExponentTooLow, lent)
+    need address (refused 1 WrongAddressOrExponentTooLow, lent)
+    (need serial (refused 1 NotForThisCall, lent)
+    (writing false (wire m) lent))
 
 abbrev pub Requests : Bool → Bool → Message → List ℕ → Written → List ℕ → Type 0
 Requests address serial m lent w later = (told w ≡ requesting address serial m lent .0) × (later ≡ requesting address serial m lent .1)

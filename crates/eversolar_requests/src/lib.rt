@@ -1,10 +1,11 @@
-// The nine requests of the master. None takes a free control or function.
+// The nine requests of the master. No control and no function can be chosen freely.
 use answers::Refusal;
 use answers::Written;
 use eversolar::write;
 ghost use mathlib.Core.Path.{_≡_};
 ghost use Rattle.eversolar.specs.Writer.{WritesMessage};
-ghost use Rattle.eversolar_requests.specs.Requests.{request, isAddress, askAll, askOne, IsAskAll, IsAskOne, IsGiveAddress};
+ghost use Rattle.numbers.specs.Addresses.{isAddress};
+ghost use Rattle.eversolar_requests.specs.Requests.{request, askAll, askOne, IsAskAll, IsAskOne, IsGiveAddress};
 ghost use Rattle.eversolar_requests.specs.Inside.{IsCode};
 
 // Requests that go to every inverter.
@@ -13,7 +14,7 @@ pub enum ToAll {
     OffLine,
     // 10/03: removed inverters come back
     Reconnect,
-    // 10/04
+    // 10/04: inverters register again
     ReRegister,
 }
 
@@ -48,7 +49,11 @@ const READ: u8 = 0x11;
 
 const GIVE: u8 = 0x01;
 
-const SERIAL: usize = 16;
+// The bytes of a serial.
+const SERIAL_SIZE: usize = 16;
+
+// The highest address that an inverter may have. The lowest is 1.
+const LAST_ADDRESS: u8 = 254;
 
 // A control and a function.
 struct Code {
@@ -106,7 +111,7 @@ fn code_to_one(what: ToOne, address: u8) -> Code
 fn is_address(address: u8) -> bool
     ensures { λ r. ⌜ r ≡ isAddress address ⌝ }
 {
-    (1 <= address) & (address <= 254)
+    (1 <= address) & (address <= LAST_ADDRESS)
 }
 
 // A message from the master.
@@ -159,11 +164,11 @@ pub fn give_address(serial: &[u8], address: u8, lent: &mut [u8]) -> Written
     if !is_address(address) {
         return Written::Refused(Refusal::WrongAddressOrExponentTooLow);
     }
-    if serial.len() != SERIAL {
+    if serial.len() != SERIAL_SIZE {
         return Written::Refused(Refusal::NotForThisCall);
     }
-    let mut payload: [u8; 17] = [0; 17];
+    let mut payload = [0; SERIAL_SIZE + 1];
     bytes::copy(serial, &mut payload);
-    payload[SERIAL] = address;
+    payload[SERIAL_SIZE] = address;
     from_master(EVERYONE, REGISTER, GIVE, &payload, lent)
 }

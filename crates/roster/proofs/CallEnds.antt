@@ -7,10 +7,11 @@ use mathlib.Core.List.{List, [], _∷_}
 use native.Mathlib.Nat.{zero-add}
 use native.Mathlib.Omega.{arith}
 use lib.ListN.{length, getD, drop, set}
-use lib.Dec.{eqb, ltb}
-use borrow.Author.Tests.{eqb-false, ltb-false, eq-eqb, ne-eqb, not-true, not-false}
+use lib.Dec.{eqb, leb}
+use borrow.Author.Tests.{leb-true, eq-eqb, ne-eqb, not-true, not-false}
+use Rattle.numbers.specs.Addresses.{isAddress}
 use Rattle.answers.specs.declared.Refusal.the-variants.{RosterFull, WrongAddressOrExponentTooLow, NotForThisCall, Spoilt}
-use Rattle.roster.specs.Roster.{places, serialSize, freePlace, usedPlace, free, usedBy, first, none, spoilt, unfit, givingSound, giving, noneAt, removing, finding}
+use Rattle.roster.specs.Roster.{places, serialSize, freePlace, usedPlace, free, usedBy, first, noPlace, spoilt, givingSound, giving, noneAt, removing, finding}
 use Rattle.roster.specs.Bytes.{rosterSize, placesOf, bytesOf}
 use Rattle.roster.specs.Calls.{IsGiven, IsRemoved, IsFound}
 use Rattle.roster.specs.Inside.{IsGivenSound}
@@ -20,6 +21,7 @@ use Rattle.roster.specs.declared.Given.the-variants as Given
 use Rattle.roster.specs.declared.Removed.the-variants as Removed
 use Rattle.roster.specs.declared.Found.the-variants as Found
 use Rattle.roster.proofs.PlacesInBytes.{bytes-places, count-places}
+use Rattle.roster.proofs.SoundTest.{both}
 
 pub first-most : (test : Place → Bool) (ps : List Place) → first test ps ≤ length ps
 first-most test [] = omega arith
@@ -42,11 +44,11 @@ module _ (b serial : List ℕ) where
   give-spoilt e = (simp e, simp e (sym (bytes-places b)))
 
   pub give-unfit : spoilt (placesOf b) ≡ false → (length serial ≡ serialSize → ⊥) → IsGiven b serial (Given.Refused NotForThisCall) b
-  unfolding giving unfit
+  unfolding giving
   give-unfit e h = (simp (e, ne-eqb _ _ h), simp (e, ne-eqb _ _ h) (sym (bytes-places b)))
 
   pub give-fit : (r : Given) (later : List ℕ) → spoilt (placesOf b) ≡ false → length serial ≡ serialSize → IsGivenSound b serial r later → IsGiven b serial r later
-  unfolding giving unfit
+  unfolding giving
   give-fit r later e h g = (simp (e, eq-eqb _ _ h) (g .0), simp (e, eq-eqb _ _ h) (g .1))
 
   module _ (sized : length b ≡ rosterSize) where
@@ -60,7 +62,7 @@ module _ (b serial : List ℕ) where
         let here : eqb (first (usedBy serial) (placesOf b)) (length (placesOf b)) ≡ false = ne-eqb _ _ (λ (q : first (usedBy serial) (placesOf b) ≡ length (placesOf b)). omega (arith, is, q, count)) in
         (simp (here, is), simp here (sym (bytes-places b)))
 
-    absent : (k : ℕ) → k ≡ 0 + first (usedBy serial) (drop 0 (placesOf b)) → places ≤ k → none (usedBy serial) (placesOf b) ≡ true
+    absent : (k : ℕ) → k ≡ 0 + first (usedBy serial) (drop 0 (placesOf b)) → places ≤ k → noPlace (usedBy serial) (placesOf b) ≡ true
     absent k e l =
         let is : k ≡ first (usedBy serial) (placesOf b) = e ∙ zero-add (first (usedBy serial) (placesOf b)) in
         let most = first-most (usedBy serial) (placesOf b) in
@@ -95,9 +97,9 @@ pub record Held (ps : List Place) (address : ℕ) : Type 0 where
 pub held : (ps : List Place) (address : ℕ) → noneAt ps address ≡ false → Held ps address
 unfolding noneAt
 held ps address e =
-    let one = neither (eqb address 0) _ e in
-    let two = neither (ltb places address) _ (one .1) in
-    record { above = omega (arith, eqb-false address 0 (one .0)); within = ltb-false places address (two .0); marked = two .1 }
+    let two = neither (not (isAddress address)) _ e in
+    let bounds = both (leb 1 address) (leb address places) (not-false _ (two .0)) in
+    record { above = leb-true 1 address (bounds .0); within = leb-true address places (bounds .1); marked = two .1 }
 
 module _ (b : List ℕ) (address : ℕ) where
   pub remove-spoilt : spoilt (placesOf b) ≡ true → IsRemoved b address (Removed.Refused Spoilt) b
@@ -119,18 +121,18 @@ module _ (b serial : List ℕ) where
   find-spoilt e = (simp e, tt)
 
   pub find-unfit : spoilt (placesOf b) ≡ false → (length serial ≡ serialSize → ⊥) → IsFound b serial (Found.Refused NotForThisCall)
-  unfolding finding unfit
+  unfolding finding
   find-unfit e h = (simp (e, ne-eqb _ _ h), tt)
 
   module _ (sized : length b ≡ rosterSize) (e : spoilt (placesOf b) ≡ false) (h : length serial ≡ serialSize) where
     pub find-none : (k : ℕ) → k ≡ 0 + first (usedBy serial) (drop 0 (placesOf b)) → k ≡ places → IsFound b serial Found.NoAddress
-    unfolding finding unfit
+    unfolding finding
     find-none k f l =
         let nowhere : eqb (first (usedBy serial) (placesOf b)) (length (placesOf b)) ≡ true = eq-eqb _ _ (sym (f ∙ zero-add _) ∙ l ∙ sym (count-places places b sized)) in
         (simp (e, eq-eqb _ _ h, nowhere), tt)
 
     pub find-there : (k : ℕ) → k ≡ 0 + first (usedBy serial) (drop 0 (placesOf b)) → (k ≡ places → ⊥) → IsFound b serial (Found.Address (k + 1))
-    unfolding finding unfit
+    unfolding finding
     find-there k f l =
         let is : k ≡ first (usedBy serial) (placesOf b) = f ∙ zero-add _ in
         let here : eqb (first (usedBy serial) (placesOf b)) (length (placesOf b)) ≡ false = ne-eqb _ _ (λ q. l (is ∙ q ∙ count-places places b sized)) in

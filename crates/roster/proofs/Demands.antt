@@ -11,7 +11,7 @@ use lib.Seq.{getD-set-same, lt-length-set}
 use lib.Dec.{ltb}
 use borrow.Author.Tests.{ltb-true, ltb-false}
 use Rattle.answers.specs.Answer.{Answer, answer, number}
-use Rattle.roster.specs.Roster.{places, serialSize, freePlace, free, usedBy, first, none, spoilt, givingSound, giving, finding}
+use Rattle.roster.specs.Roster.{places, serialSize, freePlace, free, usedBy, first, noPlace, spoilt, givingSound, giving, finding}
 use Rattle.roster.specs.Bytes.{placesOf, bytesOf}
 use Rattle.roster.specs.Calls.{toldGiven, IsGiven}
 use Rattle.roster.specs.Demands.{freshRoster, GivenIsFound, GivenTwice, LowestFree, RemovedIsGiven, Fills, addressesFrom, NeverSpoilt, StaysWellFormed, Kept}
@@ -38,7 +38,7 @@ record After (roster serial later : List ℕ) (address : ℕ) : Type 0 where
   bytes : later ≡ bytesOf ps
   all : Fine ps
   fits : length serial ≡ serialSize
-  there : none (usedBy serial) ps ≡ false
+  there : noPlace (usedBy serial) ps ≡ false
   at : first (usedBy serial) ps + 1 ≡ address
 
 after : (roster serial later : List ℕ) (g : Given) (address : ℕ) → IsGiven roster serial g later → toldGiven g ≡ answer 0 (address ∷ []) → After roster serial later address
@@ -57,7 +57,7 @@ given-is-found roster serial later g f address p t q =
     ∙ ap (λ (n : ℕ). answer 0 (n ∷ [])) (a .at) in
     found-alike f (Found.Address address) (q .1) (omega (arith, a .at)) (q .0 ∙ found)
 
-giving-there : (ps : List Place) (s : List ℕ) → Fine ps → length s ≡ serialSize → none (usedBy s) ps ≡ false → giving ps s ≡ (answer 0 ((first (usedBy s) ps + 1) ∷ []), ps)
+giving-there : (ps : List Place) (s : List ℕ) → Fine ps → length s ≡ serialSize → noPlace (usedBy s) ps ≡ false → giving ps s ≡ (answer 0 ((first (usedBy s) ps + 1) ∷ []), ps)
 unfolding givingSound
 giving-there ps s f l n = giving-fits ps s f l ∙ simp n
 
@@ -69,12 +69,12 @@ given-twice roster serial later last g h address p t q =
 
 -- ---- removing, then giving
 
-giving-lowest : (ps : List Place) (s : List ℕ) → Fine ps → length s ≡ serialSize → none (usedBy s) ps ≡ true → none free ps ≡ false
+giving-lowest : (ps : List Place) (s : List ℕ) → Fine ps → length s ≡ serialSize → noPlace (usedBy s) ps ≡ true → noPlace free ps ≡ false
     → giving ps s .0 ≡ answer 0 ((first free ps + 1) ∷ [])
 unfolding givingSound
 giving-lowest ps s f l n m = ap (λ (end : Answer × List Place). end .0) (giving-fits ps s f l) ∙ simp (n, m)
 
-lowest-free : (ps : List Place) → Fine ps → none free ps ≡ false → LowestFree ps (first free ps + 1)
+lowest-free : (ps : List Place) → Fine ps → noPlace free ps ≡ false → LowestFree ps (first free ps + 1)
 lowest-free ps f m =
     let of = first-found free ps freePlace m in
     let back : first free ps + 1 - 1 ≡ first free ps = omega arith in
@@ -90,7 +90,7 @@ unfolding free
 free-free = refl
 
 -- the place freed is free, so the lowest is not above it
-not-above : (ps : List Place) (k : ℕ) → free (getD ps k freePlace) ≡ true → none free ps ≡ false → first free ps ≤ k
+not-above : (ps : List Place) (k : ℕ) → free (getD ps k freePlace) ≡ true → noPlace free ps ≡ false → first free ps ≤ k
 not-above ps k e m = go (ltb k (first free ps)) refl
   where
     go : (t : Bool) → ltb k (first free ps) ≡ t → first free ps ≤ k
@@ -111,7 +111,7 @@ removed-is-given roster serial later last f r g address pf tf pr tr pg =
     let holds : placesOf later ≡ qs = held-by qs later well left in
     let inside = first-found (usedBy serial) ps freePlace (there .0) .within in
     let freed : free (getD qs k freePlace) ≡ true = ap free (getD-set-same ps k freePlace freePlace inside) ∙ free-free in
-    let some : none free qs ≡ false = some-pass free qs k freePlace (lt-length-set ps k freePlace inside) freed in
+    let some : noPlace free qs ≡ false = some-pass free qs k freePlace (lt-length-set ps k freePlace inside) freed in
     record {
       address = first free qs + 1;
       told = pg .0 ∙ ap (λ (x : List Place). giving x serial .0) holds ∙ giving-lowest qs serial well (found .fits) (freed-gone serial ps (found .fine .all)) some;

@@ -12,7 +12,7 @@ use borrow.Author.Tests.{ne-eqb}
 use Rattle.answers.specs.Answer.{Answer, answer}
 use Rattle.answers.specs.Refusal.{refused}
 use Rattle.answers.specs.declared.Refusal.the-variants.{RosterFull}
-use Rattle.roster.specs.Roster.{places, serialSize, usedPlace, freePlace, free, usedBy, first, none, sound, givingSound, giving}
+use Rattle.roster.specs.Roster.{places, serialSize, usedPlace, freePlace, free, usedBy, first, noPlace, sound, givingSound, giving}
 use Rattle.roster.specs.Bytes.{placeSize, placesOf, bytesOf}
 use Rattle.roster.specs.Calls.{toldGiven, IsGiven}
 use Rattle.roster.specs.Demands.{freshRoster, GivenAll, New, EachNew, addressesFrom}
@@ -38,7 +38,7 @@ free-free : free freePlace ≡ true
 unfolding free
 free-free = refl
 
-pub filled-none : (s : List ℕ) (gs : List (List ℕ)) (n : ℕ) → New s gs → none (usedBy s) (filled gs n) ≡ true
+pub filled-none : (s : List ℕ) (gs : List (List ℕ)) (n : ℕ) → New s gs → noPlace (usedBy s) (filled gs n) ≡ true
 filled-none s [] zero h = refl
 filled-none s [] (suc n) h = none-and (usedBy s) freePlace (filled [] n) (used-by-free s freePlace used-free) (filled-none s [] n h)
 filled-none s (g ∷ gs) n h =
@@ -56,7 +56,7 @@ filled-set [] n s = refl
 filled-set (g ∷ gs) n s = ap (λ (ps : List Place). usedPlace g ∷ ps) (filled-set gs n s)
 
 -- no place is free any more
-filled-full : (gs : List (List ℕ)) → none free (filled gs 0) ≡ true
+filled-full : (gs : List (List ℕ)) → noPlace free (filled gs 0) ≡ true
 filled-full [] = refl
 filled-full (g ∷ gs) = none-and free (usedPlace g) (filled gs 0) (free-used g) (filled-full gs)
 
@@ -68,7 +68,7 @@ unfolding givingSound
 giving-next gs n s f l h =
     let at = filled-first gs n in
     let count = filled-count gs (suc n) in
-    let some : none free (filled gs (suc n)) ≡ false = ne-eqb _ _ (λ (e : first free (filled gs (suc n)) ≡ length (filled gs (suc n))). omega (arith, at, count, e)) in
+    let some : noPlace free (filled gs (suc n)) ≡ false = ne-eqb _ _ (λ (e : first free (filled gs (suc n)) ≡ length (filled gs (suc n))). omega (arith, at, count, e)) in
     giving-fits (filled gs (suc n)) s f l
     ∙ simp (filled-none s gs (suc n) h, some)
     (ap {B = Answer × List Place} (λ (k : ℕ). (answer 0 ((k + 1) ∷ []), set (filled gs (suc n)) k (usedPlace s))) at

@@ -10,8 +10,9 @@ use lib.ListN.{length, getD, set, length-set}
 use lib.Seq.{set-out}
 use lib.Dec.{eqb}
 use borrow.Author.Tests.{eqb-true, eq-eqb, ne-eqb, not-true}
+use Rattle.numbers.specs.Lists.{same}
 use Rattle.numbers.proofs.Alike.{zero-is-one}
-use Rattle.roster.specs.Roster.{serialSize, usedPlace, freePlace, used, free, usedBy, same, good, first, none, alone, sound}
+use Rattle.roster.specs.Roster.{serialSize, usedPlace, freePlace, used, free, usedBy, good, first, noPlace, alone, sound}
 use Rattle.roster.specs.declared.Place.{Place}
 use Rattle.roster.proofs.SoundTest.{both, eqb-alike, Fine}
 
@@ -44,24 +45,24 @@ other-same s t e q = no (sym (same-refl s) ∙ ap (same s) q ∙ e)
 
 -- ---- searching
 
-pub none-more : (test : Place → Bool) (p : Place) (ps : List Place) → none test (p ∷ ps) ≡ (not (test p) && none test ps)
+pub none-more : (test : Place → Bool) (p : Place) (ps : List Place) → noPlace test (p ∷ ps) ≡ (not (test p) && noPlace test ps)
 none-more test p ps = go (test p)
   where
-    go : (t : Bool) → eqb (cond t 0 (first test ps + 1)) (length (p ∷ ps)) ≡ (not t && none test ps)
+    go : (t : Bool) → eqb (cond t 0 (first test ps + 1)) (length (p ∷ ps)) ≡ (not t && noPlace test ps)
     go true = ne-eqb 0 (suc (length ps)) (λ e. omega (arith, e))
     go false = eqb-alike (first test ps + 1) (suc (length ps)) (first test ps) (length ps) (λ e. omega (arith, e)) (λ e. omega (arith, e))
 
 -- none here, and none behind
 pub record NoneOf (test : Place → Bool) (p : Place) (ps : List Place) : Type 0 where
   pub here : test p ≡ false
-  pub behind : none test ps ≡ true
+  pub behind : noPlace test ps ≡ true
 
-pub none-of : (test : Place → Bool) (p : Place) (ps : List Place) → none test (p ∷ ps) ≡ true → NoneOf test p ps
+pub none-of : (test : Place → Bool) (p : Place) (ps : List Place) → noPlace test (p ∷ ps) ≡ true → NoneOf test p ps
 none-of test p ps e =
-    let two = both (not (test p)) (none test ps) (sym (none-more test p ps) ∙ e) in
+    let two = both (not (test p)) (noPlace test ps) (sym (none-more test p ps) ∙ e) in
     record { here = not-true _ (two .0); behind = two .1 }
 
-pub none-and : (test : Place → Bool) (p : Place) (ps : List Place) → test p ≡ false → none test ps ≡ true → none test (p ∷ ps) ≡ true
+pub none-and : (test : Place → Bool) (p : Place) (ps : List Place) → test p ≡ false → noPlace test ps ≡ true → noPlace test (p ∷ ps) ≡ true
 none-and test p ps h b = none-more test p ps ∙ simp (h, b)
 
 -- ---- what was found
@@ -93,16 +94,16 @@ first-behind test p ps other t f =
     each e zero l = t
     each e (suc k) l = f .below k (omega (arith, e, l))
 
-pub first-found : (test : Place → Bool) (ps : List Place) (other : Place) → none test ps ≡ false → First test ps other
+pub first-found : (test : Place → Bool) (ps : List Place) (other : Place) → noPlace test ps ≡ false → First test ps other
 first-found test [] other e = no e
 first-found test (p ∷ ps) other e = go (test p) refl (first-found test ps other)
   where
-    go : (t : Bool) → test p ≡ t → (none test ps ≡ false → First test ps other) → First test (p ∷ ps) other
+    go : (t : Bool) → test p ≡ t → (noPlace test ps ≡ false → First test ps other) → First test (p ∷ ps) other
     go true q rest = first-here test p ps other q
     go false q rest = first-behind test p ps other q (rest (sym (none-more test p ps ∙ simp q) ∙ e))
 
 -- a place that passes the test is found
-pub some-pass : (test : Place → Bool) (ps : List Place) (k : ℕ) (other : Place) → k < length ps → test (getD ps k other) ≡ true → none test ps ≡ false
+pub some-pass : (test : Place → Bool) (ps : List Place) (k : ℕ) (other : Place) → k < length ps → test (getD ps k other) ≡ true → noPlace test ps ≡ false
 some-pass test [] k other l e = absurd (let z : ⊥ = omega (arith, l) in z)
 some-pass test (p ∷ ps) zero other l e = none-more test p ps ∙ simp e
 some-pass test (p ∷ ps) (suc k) other l e =
@@ -110,8 +111,8 @@ some-pass test (p ∷ ps) (suc k) other l e =
 
 -- ---- one place is set
 
-none-set : (test : Place → Bool) (q : Place) → test q ≡ false → (ps : List Place) (k : ℕ) → none test ps ≡ true → none test (set ps k q) ≡ true
-none-set test q t [] k e = ap (none test) (set-out [] k q (omega arith))
+none-set : (test : Place → Bool) (q : Place) → test q ≡ false → (ps : List Place) (k : ℕ) → noPlace test ps ≡ true → noPlace test (set ps k q) ≡ true
+none-set test q t [] k e = ap (noPlace test) (set-out [] k q (omega arith))
 none-set test q t (p ∷ ps) zero e = none-and test q ps t (none-of test p ps e .behind)
 none-set test q t (p ∷ ps) (suc k) e =
     none-and test p (set ps k q) (none-of test p ps e .here) (none-set test q t ps k (none-of test p ps e .behind))
@@ -136,7 +137,7 @@ pub alone-free : (p : Place) (ps : List Place) → used p ≡ false → alone p 
 unfolding alone
 alone-free p ps u = simp u
 
-alone-used : (p : Place) (ps : List Place) → used p ≡ true → alone p ps ≡ none (usedBy (p .serial)) ps
+alone-used : (p : Place) (ps : List Place) → used p ≡ true → alone p ps ≡ noPlace (usedBy (p .serial)) ps
 unfolding alone
 alone-used p ps u = simp u
 
@@ -218,16 +219,16 @@ used-is-used s = used-by-used s (usedPlace s) (used-used s) ∙ same-refl s
 pub fine-free : (ps : List Place) (k : ℕ) → Fine ps → Fine (set ps k freePlace)
 fine-free ps k f = fine-set freePlace ps k good-free (alone-free freePlace ps used-free) f
 
-pub fine-used : (ps : List Place) (k : ℕ) (s : List ℕ) → length s ≡ serialSize → none (usedBy s) ps ≡ true → Fine ps → Fine (set ps k (usedPlace s))
+pub fine-used : (ps : List Place) (k : ℕ) (s : List ℕ) → length s ≡ serialSize → noPlace (usedBy s) ps ≡ true → Fine ps → Fine (set ps k (usedPlace s))
 fine-used ps k s l n f = fine-set (usedPlace s) ps k (good-used s l) (alone-used (usedPlace s) ps (used-used s) ∙ n) f
 
 -- a new serial is then found where it was put
-pub new-found : (s : List ℕ) (ps : List Place) → none (usedBy s) ps ≡ true → none free ps ≡ false
+pub new-found : (s : List ℕ) (ps : List Place) → noPlace (usedBy s) ps ≡ true → noPlace free ps ≡ false
     → first (usedBy s) (set ps (first free ps) (usedPlace s)) ≡ first free ps
 new-found s [] n f = no f
 new-found s (p ∷ ps) n f = go (free p) refl (new-found s ps (none-of (usedBy s) p ps n .behind))
   where
-    go : (t : Bool) → free p ≡ t → (none free ps ≡ false → first (usedBy s) (set ps (first free ps) (usedPlace s)) ≡ first free ps)
+    go : (t : Bool) → free p ≡ t → (noPlace free ps ≡ false → first (usedBy s) (set ps (first free ps) (usedPlace s)) ≡ first free ps)
         → first (usedBy s) (set (p ∷ ps) (cond t 0 (first free ps + 1)) (usedPlace s)) ≡ cond t 0 (first free ps + 1)
     go true e rest = ap (λ (r : Bool). cond r 0 (first (usedBy s) ps + 1)) (used-is-used s)
     go false e rest =
@@ -237,16 +238,16 @@ new-found s (p ∷ ps) n f = go (free p) refl (new-found s ps (none-of (usedBy s
         ∙ ap (λ (k : ℕ). k + 1) (rest (sym (none-more free p ps ∙ simp e) ∙ f))
 
 -- and a serial whose place was freed is found no more
-pub freed-gone : (s : List ℕ) (ps : List Place) → sound ps ≡ true → none (usedBy s) (set ps (first (usedBy s) ps) freePlace) ≡ true
+pub freed-gone : (s : List ℕ) (ps : List Place) → sound ps ≡ true → noPlace (usedBy s) (set ps (first (usedBy s) ps) freePlace) ≡ true
 freed-gone s [] o = refl
 freed-gone s (p ∷ ps) o = go (usedBy s p) refl (freed-gone s ps (sound-of p ps o .behind))
   where
-    go : (t : Bool) → usedBy s p ≡ t → none (usedBy s) (set ps (first (usedBy s) ps) freePlace) ≡ true
-        → none (usedBy s) (set (p ∷ ps) (cond t 0 (first (usedBy s) ps + 1)) freePlace) ≡ true
+    go : (t : Bool) → usedBy s p ≡ t → noPlace (usedBy s) (set ps (first (usedBy s) ps) freePlace) ≡ true
+        → noPlace (usedBy s) (set (p ∷ ps) (cond t 0 (first (usedBy s) ps + 1)) freePlace) ≡ true
     go true e rest =
         let u = used-by-true s p e in
         none-and (usedBy s) freePlace ps (used-by-free s freePlace used-free)
-        (ap (λ (x : List ℕ). none (usedBy x) ps) (sym (u .1)) ∙ sym (alone-used p ps (u .0)) ∙ sound-of p ps o .alone)
+        (ap (λ (x : List ℕ). noPlace (usedBy x) ps) (sym (u .1)) ∙ sym (alone-used p ps (u .0)) ∙ sound-of p ps o .alone)
     go false e rest =
-        ap (λ (k : ℕ). none (usedBy s) (set (p ∷ ps) k freePlace)) (add-one (first (usedBy s) ps))
+        ap (λ (k : ℕ). noPlace (usedBy s) (set (p ∷ ps) k freePlace)) (add-one (first (usedBy s) ps))
         ∙ none-and (usedBy s) p (set ps (first (usedBy s) ps) freePlace) e rest

@@ -10,7 +10,8 @@ use native.Mathlib.Nat.{zero-add}
 use lib.ListN.{length, getD, take, drop, drop-of-length-le}
 use lib.Seq.{drop-cons, drop-length}
 use lib.Dec.{eqb}
-use Rattle.roster.specs.Roster.{places, serialSize, same, first}
+use Rattle.numbers.specs.Lists.{same}
+use Rattle.roster.specs.Roster.{places, serialSize, first}
 use Rattle.roster.specs.Bytes.{placeSize, rosterSize, placesOf}
 use Rattle.roster.specs.Inside.{placeIn}
 use Rattle.roster.specs.declared.Place.{Place}

@@ -10,7 +10,9 @@ use lib.ListN.{length, getD, drop, length-drop}
 use lib.Seq.{length-take-le}
 use lib.Dec.{eqb}
 use borrow.Author.Tests.{eqb-true, eqb-false, eq-eqb, ne-eqb, not-false}
-use Rattle.roster.specs.Roster.{places, serialSize, freePlace, used, free, usedBy, same, good, first, alone, sound, spoilt}
+use Rattle.numbers.specs.Lists.{same}
+use Rattle.numbers.proofs.Alike.{zero-is-one}
+use Rattle.roster.specs.Roster.{places, serialSize, freePlace, used, free, usedBy, good, first, alone, sound, spoilt}
 use Rattle.roster.specs.Bytes.{placeSize, rosterSize, placesOf, Whole}
 use Rattle.roster.specs.Inside.{placeIn, soundAt}
 use Rattle.roster.specs.declared.Place.{Place}
@@ -109,4 +111,4 @@ fine-size b e = go (eqb (length b) rosterSize) refl
   where
     go : (t : Bool) → eqb (length b) rosterSize ≡ t → length b ≡ rosterSize
     go true q = eqb-true _ _ q
-    go false q = let z : true ≡ false = sym (other-size b (eqb-false _ _ q)) ∙ e in (let w : _≡_ {A = ℕ} 0 1 = cc in absurd (omega arith))
+    go false q = let z : true ≡ false = sym (other-size b (eqb-false _ _ q)) ∙ e in zero-is-one cc

@@ -1,4 +1,4 @@
--- What the inner functions promise. No public promise cites these.
+-- What the inner functions promise. No public promise cites these, so they need not be read.
 use Prim.Native.Nat.{ℕ, suc, _+_, _*_}
 use mathlib.Core.Path.{_≡_}
 use mathlib.Core.Bool.{Bool, _&&_}

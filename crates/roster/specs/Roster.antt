@@ -1,29 +1,21 @@
 -- The roster of addresses, in document 01's words and order: the rule, over a list of places.
 -- The place of address a is the one at a - 1.
 use Prim.Native.Nat.{ℕ, _+_, _-_}
-use mathlib.Core.Bool.{Bool, true, false, cond, not, _&&_, _||_}
+use mathlib.Core.Bool.{Bool, true, cond, not, _&&_, _||_}
 use mathlib.Core.List.{List, [], _∷_}
 use lib.ListN.{length, getD, set, replicate}
-use lib.Dec.{eqb, ltb}
-use Rattle.answers.specs.Answer.{Answer, answer}
+use lib.Dec.{eqb}
+use Rattle.numbers.specs.Lists.{same}
+use Rattle.numbers.specs.Addresses.{lastAddress, isAddress, isSerial}
+pub use Rattle.numbers.specs.Addresses.{serialSize}
+use Rattle.answers.specs.Answer.{Answer, answer, need}
 use Rattle.answers.specs.Refusal.{refused}
 use Rattle.answers.specs.declared.Refusal.the-variants.{RosterFull, WrongAddressOrExponentTooLow, NotForThisCall, Spoilt}
 use Rattle.roster.specs.declared.Place.{Place}
 
--- There are 254 places, one for each address,
+-- There are 254 places, one for each address, each a mark and a serial of 16 bytes (`serialSize`).
 abbrev pub places : ℕ
-places = 254
-
--- each a mark and a serial of 16 bytes.
-abbrev pub serialSize : ℕ
-serialSize = 16
-
--- two serials, byte by byte
-abbrev pub same : List ℕ → List ℕ → Bool
-same [] [] = true
-same [] (b ∷ t) = false
-same (a ∷ s) [] = false
-same (a ∷ s) (b ∷ t) = eqb a b && same s t
+places = lastAddress
 
 -- Only the mark says whether a place is used or free: a used place may hold the all-zero serial.
 unfoldable pub used : Place → Bool
@@ -43,19 +35,19 @@ usedBy serial p = used p && same (p .serial) serial
 
 -- A mark is 0 or 1; a free place is all zero;
 unfoldable pub good : Place → Bool
-good p = eqb (length (p .serial)) serialSize && (used p || free p && same (p .serial) (freePlace .serial))
+good p = isSerial (p .serial) && (used p || free p && same (p .serial) (freePlace .serial))
 
 -- how many places stand before the first that passes a test: all of them where none does
 abbrev pub first : (Place → Bool) → List Place → ℕ
 first test [] = 0
 first test (p ∷ ps) = cond (test p) 0 (first test ps + 1)
 
-abbrev pub none : (Place → Bool) → List Place → Bool
-none test ps = eqb (first test ps) (length ps)
+abbrev pub noPlace : (Place → Bool) → List Place → Bool
+noPlace test ps = eqb (first test ps) (length ps)
 
 -- no two used places share a serial: of the places behind p none is used by the serial that uses p.
 unfoldable pub alone : Place → List Place → Bool
-alone p behind = not (used p) || none (usedBy (p .serial)) behind
+alone p behind = not (used p) || noPlace (usedBy (p .serial)) behind
 
 abbrev pub sound : List Place → Bool
 sound [] = true
@@ -65,40 +57,36 @@ sound (p ∷ ps) = (good p && alone p ps) && sound ps
 unfoldable pub spoilt : List Place → Bool
 spoilt ps = not (eqb (length ps) places && sound ps)
 
--- a serial not of 16 bytes
-unfoldable pub unfit : List ℕ → Bool
-unfit serial = not (eqb (length serial) serialSize)
-
 -- Giving, where the roster is sound: a serial already there keeps its address;
 -- a new one gets the lowest free address, freed ones included; 14 exactly if all 254 are used by others.
 unfoldable pub givingSound : List Place → List ℕ → Answer × List Place
 givingSound ps serial =
-    cond (not (none (usedBy serial) ps)) (answer 0 ((first (usedBy serial) ps + 1) ∷ []), ps)
-    (cond (none free ps) (refused 1 RosterFull, ps)
+    need (noPlace (usedBy serial) ps) (answer 0 ((first (usedBy serial) ps + 1) ∷ []), ps)
+    (need (not (noPlace free ps)) (refused 1 RosterFull, ps)
     (answer 0 ((first free ps + 1) ∷ []), set ps (first free ps) (usedPlace serial)))
 
 -- Tests: 18, then 17 or 16, then 14. What each call tells, and the roster afterwards:
 unfoldable pub giving : List Place → List ℕ → Answer × List Place
 giving ps serial =
-    cond (spoilt ps) (refused 1 Spoilt, ps)
-    (cond (unfit serial) (refused 1 NotForThisCall, ps)
+    need (not (spoilt ps)) (refused 1 Spoilt, ps)
+    (need (isSerial serial) (refused 1 NotForThisCall, ps)
     (givingSound ps serial))
 
 -- address 0, 255 or free
 unfoldable pub noneAt : List Place → ℕ → Bool
-noneAt ps address = eqb address 0 || (ltb places address || free (getD ps (address - 1) freePlace))
+noneAt ps address = not (isAddress address) || free (getD ps (address - 1) freePlace)
 
 -- Removing zeroes the place.
 unfoldable pub removing : List Place → ℕ → Answer × List Place
 removing ps address =
-    cond (spoilt ps) (refused 0 Spoilt, ps)
-    (cond (noneAt ps address) (refused 0 WrongAddressOrExponentTooLow, ps)
+    need (not (spoilt ps)) (refused 0 Spoilt, ps)
+    (need (not (noneAt ps address)) (refused 0 WrongAddressOrExponentTooLow, ps)
     (answer 0 [], set ps (address - 1) freePlace))
 
 -- Finding tells the address of a serial, 0 where none has it, and changes nothing.
 unfoldable pub finding : List Place → List ℕ → Answer
 finding ps serial =
-    cond (spoilt ps) (refused 1 Spoilt)
-    (cond (unfit serial) (refused 1 NotForThisCall)
-    (cond (none (usedBy serial) ps) (answer 0 (0 ∷ []))
+    need (not (spoilt ps)) (refused 1 Spoilt)
+    (need (isSerial serial) (refused 1 NotForThisCall)
+    (need (not (noPlace (usedBy serial) ps)) (answer 0 (0 ∷ []))
     (answer 0 ((first (usedBy serial) ps + 1) ∷ []))))

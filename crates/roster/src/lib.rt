@@ -4,7 +4,8 @@ ghost use Prim.Native.Nat.{_+_, _*_, _≤_, _<_};
 ghost use mathlib.Core.Path.{_≡_};
 ghost use mathlib.Core.Bool.{not};
 ghost use lib.ListN.{length, drop};
-ghost use Rattle.roster.specs.Roster.{places, serialSize, usedBy, free, first, same, spoilt, noneAt};
+ghost use Rattle.numbers.specs.Lists.{same};
+ghost use Rattle.roster.specs.Roster.{places, serialSize, usedBy, free, first, spoilt, noneAt};
 ghost use Rattle.roster.specs.Bytes.{rosterSize, placesOf};
 ghost use Rattle.roster.specs.Calls.{IsGiven, IsRemoved, IsFound};
 ghost use Rattle.roster.specs.Inside.{placeIn, soundAt, IsPut, IsGivenSound};
@@ -132,8 +133,8 @@ fn place_sound(roster: &[u8], k: usize) -> bool
     if mark != FREE {
         return false;
     }
-    let nothing = [0; SERIAL_SIZE];
-    same(&roster[from..end], &nothing)
+    let unused = [0; SERIAL_SIZE];
+    same(&roster[from..end], &unused)
 }
 
 // The test for 18, run once a call.
@@ -173,12 +174,12 @@ fn give_sound(roster: &mut [u8], serial: &[u8]) -> Given
     if k < PLACES {
         return Given::Address((k + 1) as u8);
     }
-    let f = lowest_free(&*roster);
-    if f == PLACES {
+    let lowest = lowest_free(&*roster);
+    if lowest == PLACES {
         return Given::Refused(Refusal::RosterFull);
     }
-    put(roster, f, USED, serial);
-    Given::Address((f + 1) as u8)
+    put(roster, lowest, USED, serial);
+    Given::Address((lowest + 1) as u8)
 }
 
 // Gives a serial an address: the one that it has, else the lowest free one.

@@ -1,4 +1,4 @@
--- What the inner functions promise. No public promise cites these.
+-- What the inner functions promise. No public promise cites these, so they need not be read.
 use Prim.Native.Nat.{ℕ}
 use mathlib.Core.Path.{_≡_}
 use mathlib.Core.List.{List}

@@ -1,5 +1,5 @@
 use borrow.Author.Tests.{not-true, not-false}
-use Rattle.eversolar_requests.specs.Requests.{isAddress}
+use Rattle.numbers.specs.Addresses.{isAddress}
 use Rattle.eversolar_requests.proofs.BuilderEnds.{gives-16, gives-17, gives}
 use mathlib.Core.Path.{_≡_, sym, _∙_}
 use mathlib.Core.Bool.{true}

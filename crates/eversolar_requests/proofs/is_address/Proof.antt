@@ -1,10 +1,9 @@
-use Rattle.eversolar_requests.specs.Requests.{isAddress}
+use Rattle.numbers.specs.Addresses.{isAddress}
 use borrow.Author.Needs.{needs}
 use Rattle.eversolar_requests.proofs.is_address.Statement.{statement}
 use Rattle.eversolar_requests.proofs.is_address.Tie as tie
 
 returns : tie.Need-returns
-unfolding isAddress
 returns c = search needs
 
 pub is-address-spec : {M : Type 1} → statement M

@@ -7,7 +7,7 @@ use lib.ListN.{drop}
 use borrow.Author.Needs.{needs}
 use Rattle.roster.specs.Roster.{usedBy, first, freePlace}
 use Rattle.roster.specs.Bytes.{placesOf}
-use Rattle.roster.specs.Roster as Roster
+use Rattle.numbers.specs.Lists as Lists
 use Rattle.roster.proofs.SearchSteps.{serial-there}
 use Rattle.roster.proofs.SoundTest.{sound-used, sound-neither, sound-free}
 use Rattle.roster.proofs.place_sound.Statement.{statement}
@@ -74,7 +74,7 @@ returns-3 c =
     let b : List ℕ = s .args .roster .now in
     let k : ℕ = s .args .k in
     c .same .ensures
-    ∙ ap (λ (t : List ℕ). Roster.same t (freePlace .serial)) (serial-there b k)
+    ∙ ap (λ (t : List ℕ). Lists.same t (freePlace .serial)) (serial-there b k)
     ∙ sound-free b k (s .pre .0) (s .pre .1) (c .before .before .before .if2 .left)
 
 pub place-sound-spec : {M : Type 1} → statement M

@@ -7,13 +7,13 @@ use native.Mathlib.Omega.{arith}
 use lib.ListN.{drop}
 use borrow.Author.Needs.{needs}
 use Rattle.roster.specs.Roster.{serialSize}
-use Rattle.roster.specs.Roster as Roster
+use Rattle.numbers.specs.Lists as Lists
 use Rattle.roster.proofs.SearchSteps.{same-next, same-end}
 use Rattle.roster.proofs.same.Statement.{statement}
 use Rattle.roster.proofs.same.Tie as tie
 
 abbrev Inv-loop : tie.InvT-loop
-Inv-loop a b equal₀ i₀ equal i = (i ≤ serialSize) × (Roster.same a b ≡ (equal && Roster.same (drop i a) (drop i b)))
+Inv-loop a b equal₀ i₀ equal i = (i ≤ serialSize) × (Lists.same a b ≡ (equal && Lists.same (drop i a) (drop i b)))
 
 abbrev μ-loop : tie.MeasureT-loop
 μ-loop a b equal₀ i₀ equal i = serialSize - i

@@ -5,7 +5,7 @@ use mathlib.Core.List.{List}
 use mathlib.Core.Path.{_∙_, ap}
 use borrow.Author.Tests.{eq-eqb, ne-eqb}
 use borrow.Author.Needs.{needs}
-use Rattle.roster.specs.Roster as Roster
+use Rattle.numbers.specs.Lists as Lists
 use Rattle.roster.specs.Roster.{used, usedBy}
 use Rattle.roster.proofs.SearchSteps.{serial-there}
 use Rattle.roster.proofs.used_by.Statement.{statement}
@@ -43,7 +43,7 @@ returns-2 : tie.Need-returns-2
 unfolding usedBy used
 returns-2 c =
     let s = c .before .before .before .before .before .before in
-    let there = c .same .ensures ∙ ap (λ (t : List ℕ). Roster.same t (s .args .serial .now)) (serial-there (s .args .roster .now) (s .args .k)) in
+    let there = c .same .ensures ∙ ap (λ (t : List ℕ). Lists.same t (s .args .serial .now)) (serial-there (s .args .roster .now) (s .args .k)) in
     simp (eq-eqb _ _ (c .before .before .if1 .left)) there
 
 pub used-by-spec : {M : Type 1} → statement M
