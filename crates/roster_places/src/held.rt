@@ -26,24 +26,18 @@ pub struct HeldRemoved {
 pub fn give_held(places: [Place; PLACES], serial: &[u8]) -> HeldGiven
     ensures { λ r. ⌜ IsGiven places (now (serial .entry)) (r .given) (r .places) ⌝ }
 {
-    let mut ps = places;
-    let given = give(&mut ps, serial);
-    HeldGiven {
-        places: ps,
-        given: given,
-    }
+    let mut places = places;
+    let given = give(&mut places, serial);
+    HeldGiven { places, given }
 }
 
 // Frees the place of an address, as `remove` does.
 pub fn remove_held(places: [Place; PLACES], address: u8) -> HeldRemoved
     ensures { λ r. ⌜ IsRemoved places address (r .removed) (r .places) ⌝ }
 {
-    let mut ps = places;
-    let removed = remove(&mut ps, address);
-    HeldRemoved {
-        places: ps,
-        removed: removed,
-    }
+    let mut places = places;
+    let removed = remove(&mut places, address);
+    HeldRemoved { places, removed }
 }
 
 // The address of a serial, as `find` tells it.

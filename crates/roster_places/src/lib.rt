@@ -122,9 +122,9 @@ fn place_in(b: &[u8], k: usize) -> Place
     ensures { λ r. ⌜ r ≡ placeIn (now (b .entry)) k ⌝ }
 {
     let at = k * PLACE_SIZE;
-    let s = serial_in(b, at + 1);
-    let m = b[at];
-    Place { mark: m, serial: s }
+    let serial = serial_in(b, at + 1);
+    let mark = b[at];
+    Place { mark, serial }
 }
 
 // What giving does to n places, whose bytes are `all` where n is 254.
@@ -144,10 +144,10 @@ fn plan_give(n: usize, all: [u8; ROSTER_SIZE], serial: &[u8]) -> GivePlan
     match given {
         Given::Address(address) => {
             let at = address as usize - 1;
-            let p = place_in(&b, at);
+            let place = place_in(&b, at);
             GivePlan {
-                at: at,
-                place: p,
+                at,
+                place,
                 given: Given::Address(address),
             }
         }

@@ -18,7 +18,7 @@ use listing::Listing;
 fn listing_of(s: &[u8]) -> Listing {
     let ports = ports_of(s);
     Listing {
-        ports: ports,
+        ports,
         packets: quad_at(s, 1 + PORTS_STATE) as usize,
         messages: quad_at(s, 9 + PORTS_STATE),
         damages: quad_at(s, 17 + PORTS_STATE),

@@ -25,7 +25,7 @@ pub(crate) fn comlynx_state(s: &[u8]) -> comlynx::Reader {
     let mut held = [0u8; COMLYNX_HELD];
     put(&mut held, 0, part(s, 1, COMLYNX_HELD));
     comlynx::Reader {
-        held: held,
+        held,
         stage: byte_at(s, 1 + COMLYNX_HELD),
         count: size_at(s, 2 + COMLYNX_HELD),
     }
@@ -79,7 +79,7 @@ pub(crate) fn eversolar_state(s: &[u8]) -> eversolar::Reader {
     let mut held = [0u8; EVERSOLAR_HELD];
     put(&mut held, 0, part(s, 1, EVERSOLAR_HELD));
     eversolar::Reader {
-        held: held,
+        held,
         stage: byte_at(s, 1 + EVERSOLAR_HELD),
         count: size_at(s, 2 + EVERSOLAR_HELD),
         len: size_at(s, 4 + EVERSOLAR_HELD),
@@ -138,7 +138,7 @@ pub(crate) fn fronius_state(s: &[u8]) -> fronius::Reader {
     let mut held = [0u8; FRONIUS_HELD];
     put(&mut held, 0, part(s, 1, FRONIUS_HELD));
     fronius::Reader {
-        held: held,
+        held,
         stage: byte_at(s, 1 + FRONIUS_HELD),
         count: size_at(s, 2 + FRONIUS_HELD),
         len: size_at(s, 4 + FRONIUS_HELD),

@@ -62,16 +62,13 @@ fn place_of(s: &[u8]) -> Place {
     put(&mut serial, 0, part(s, 1, SERIAL_SIZE));
     Place {
         mark: byte_at(s, 0),
-        serial: serial,
+        serial,
     }
 }
 
 fn places_of(s: &[u8]) -> [Place; PLACES] {
     let serial = [0u8; SERIAL_SIZE];
-    let free = Place {
-        mark: 0,
-        serial: serial,
-    };
+    let free = Place { mark: 0, serial };
     let mut places = [free; PLACES];
     let mut i = 0;
     while i < PLACES {

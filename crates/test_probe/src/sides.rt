@@ -68,10 +68,7 @@ fn number_told(number: u8, used: usize) -> Told {
         0,
         0,
     ];
-    Told {
-        len: 11,
-        bytes: bytes,
-    }
+    Told { len: 11, bytes }
 }
 
 fn comlynx_told(h: comlynx::Header, used: usize) -> Told {
@@ -96,10 +93,7 @@ fn comlynx_told(h: comlynx::Header, used: usize) -> Told {
         high(h.len),
         0,
     ];
-    Told {
-        len: 16,
-        bytes: bytes,
-    }
+    Told { len: 16, bytes }
 }
 
 fn eversolar_told(h: eversolar::Header, used: usize) -> Told {
@@ -122,10 +116,7 @@ fn eversolar_told(h: eversolar::Header, used: usize) -> Told {
         low(h.len),
         high(h.len),
     ];
-    Told {
-        len: 17,
-        bytes: bytes,
-    }
+    Told { len: 17, bytes }
 }
 
 fn fronius_told(h: fronius::Header, used: usize) -> Told {
@@ -148,10 +139,7 @@ fn fronius_told(h: fronius::Header, used: usize) -> Told {
         0,
         0,
     ];
-    Told {
-        len: 14,
-        bytes: bytes,
-    }
+    Told { len: 14, bytes }
 }
 
 fn answer_told(answer: Answer, used: usize) -> Told {

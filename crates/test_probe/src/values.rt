@@ -38,9 +38,9 @@ fn address(word: u16) -> [u8; HEAD] {
 
 fn word_of_address(network: u8, subnet: u8, node: u8) -> [u8; HEAD] {
     let a = Address {
-        network: network,
-        subnet: subnet,
-        node: node,
+        network,
+        subnet,
+        node,
     };
     let addressed = comlynx_meaning::word_of(a);
     match addressed {

@@ -15,8 +15,8 @@ add-serial-in c = search needs
 serial-in-requires : tie.Need-serial-in-requires
 serial-in-requires c κs = search needs
 
-shared-slice-read-m : tie.Need-shared-slice-read-m
-shared-slice-read-m c = search needs
+shared-slice-read-mark : tie.Need-shared-slice-read-mark
+shared-slice-read-mark c = search needs
 
 returns : tie.Need-returns
 returns c =
@@ -25,4 +25,4 @@ returns c =
 
 pub place-in-spec : {M : Type 1} → statement M
 place-in-spec =
-    tie.close (tie.spec mul-at add-serial-in serial-in-requires shared-slice-read-m returns)
+    tie.close (tie.spec mul-at add-serial-in serial-in-requires shared-slice-read-mark returns)
