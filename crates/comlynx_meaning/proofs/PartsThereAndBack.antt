@@ -2,13 +2,13 @@
 -- Assumes nothing.
 use Prim.Native.Nat.{ℕ, _+_, _*_, _/_, _%_, _≤_, _<_}
 use mathlib.Core.Path.{_≡_, refl, sym, ap, subst}
-use mathlib.Core.Bool.{Bool, true, false, cond, _&&_}
+use mathlib.Core.Bool.{Bool, true, false, _&&_}
 use mathlib.Core.List.{[], _∷_}
 use lib.Dec.{T, leb, leb→le}
 use store.Enc.{and-l, and-r}
 use borrow.Author.Tests.{le-leb}
 use native.Mathlib.Omega.{arith}
-use Rattle.answers.specs.Answer.{answer}
+use Rattle.answers.specs.Answer.{answer, need}
 use Rattle.answers.specs.Refusal as Refusal
 use Rattle.answers.specs.declared.Refusal.the-variants.{WrongAddressOrExponentTooLow}
 use Rattle.comlynx_meaning.specs.Meaning.{addressOf, wordOf}
@@ -32,7 +32,7 @@ unfolding wordOf
 back a word h e = go (leb (a .network) 15 && leb (a .subnet) 15) refl e
   where
     go : (t : Bool) → leb (a .network) 15 && leb (a .subnet) 15 ≡ t
-        → cond t (answer 0 ((a .network * 4096 + a .subnet * 256 + a .node) ∷ [])) (Refusal.refused 1 WrongAddressOrExponentTooLow) ≡ answer 0 (word ∷ []) → addressOf word ≡ a
+        → need t (Refusal.refused 1 WrongAddressOrExponentTooLow) (answer 0 ((a .network * 4096 + a .subnet * 256 + a .node) ∷ [])) ≡ answer 0 (word ∷ []) → addressOf word ≡ a
     go true f e =
         let t = four-bits (a .network) (a .subnet) f in
         let n = t .0 in

@@ -1,12 +1,12 @@
 -- What a type byte means with the data beside it (000, 5.2.3), and the parts of an address.
 use Prim.Native.Nat.{ℕ, _+_, _*_, _/_, _%_}
 use mathlib.Core.Path.{_≡_}
-use mathlib.Core.Bool.{Bool, cond, _&&_, _||_}
+use mathlib.Core.Bool.{Bool, cond, not, _&&_, _||_}
 use mathlib.Core.Option.{Option, none, some}
 use mathlib.Core.List.{List, [], _∷_}
 use lib.ListN.{length, getD}
 use lib.Dec.{eqb, leb}
-use Rattle.answers.specs.Answer.{Answer, answer}
+use Rattle.answers.specs.Answer.{Answer, answer, need}
 use Rattle.answers.specs.Refusal as Refusal
 use Rattle.answers.specs.declared.Refusal.{Refusal}
 use Rattle.answers.specs.declared.Refusal.the-variants.{WrongAddressOrExponentTooLow, NotForThisCall}
@@ -32,6 +32,9 @@ isTransmission kind = eqb (kind / 64 % 2) 1
 abbrev pub isApplication : ℕ → Bool
 isApplication kind = eqb (kind / 32 % 2) 1
 
+abbrev pub isError : ℕ → Bool
+isError kind = isTransmission kind || isApplication kind
+
 -- what is meant, with the id, and in an error reply the code
 pub data Said : Type 0 where
   request : ℕ → Said
@@ -55,16 +58,19 @@ told (Refused why) = refused why
 
 -- an error reply has one data byte, its code, else 17
 abbrev pub coded : (ℕ → Said) → List ℕ → Told
-coded error bs = cond (eqb (length bs) 1) (tells 0 (some (error (getD bs 0 0)))) (refused NotForThisCall)
+coded error bs =
+    need (eqb (length bs) 1) (refused NotForThisCall)
+    (tells 0 (some (error (getD bs 0 0))))
 
--- and 17 for both error bits, or for one in a request
+-- and 17 for an error bit in a request, and for both error bits
 unfoldable pub meant : ℕ → List ℕ → Told
 meant kind bs =
-    cond (isReply kind)
-    (cond (isTransmission kind)
-    (cond (isApplication kind) (refused NotForThisCall) (coded (transmissionError (idOf kind)) bs))
-    (cond (isApplication kind) (coded (applicationError (idOf kind)) bs) (tells 0 (some (reply (idOf kind))))))
-    (cond (isTransmission kind || isApplication kind) (refused NotForThisCall) (tells 0 (some (request (idOf kind)))))
+    need (isReply kind || not (isError kind)) (refused NotForThisCall)
+    (need (not (isTransmission kind && isApplication kind)) (refused NotForThisCall)
+    (cond (isTransmission kind) (coded (transmissionError (idOf kind)) bs)
+    (cond (isApplication kind) (coded (applicationError (idOf kind)) bs)
+    (cond (isReply kind) (tells 0 (some (reply (idOf kind))))
+    (tells 0 (some (request (idOf kind))))))))
 
 -- what `meaning_of` promises
 abbrev pub IsMeaning : ℕ → List ℕ → Meaning → Type 0
@@ -86,9 +92,8 @@ toldWord (NoWord why) = Refusal.refused 1 why
 
 unfoldable pub wordOf : Address → Answer
 wordOf a =
-    cond (leb (a .network) 15 && leb (a .subnet) 15)
+    need (leb (a .network) 15 && leb (a .subnet) 15) (Refusal.refused 1 WrongAddressOrExponentTooLow)
     (answer 0 ((a .network * 4096 + a .subnet * 256 + a .node) ∷ []))
-    (Refusal.refused 1 WrongAddressOrExponentTooLow)
 
 -- what `word_of` promises
 abbrev pub IsWord : Address → Addressed → Type 0

@@ -6,11 +6,12 @@ ghost use mathlib.Core.Bool.{cond, _&&_};
 ghost use lib.Dec.{leb};
 ghost use Rattle.comlynx_meaning.specs.Meaning.{told, transmissionError, applicationError, coded, IsMeaning, IsAddress, IsWord};
 
+// What a message says.
 pub enum Meaning {
-    // with its id
+    // each with its id
     Request(u8),
     Reply(u8),
-    // with its id and code
+    // each with its id and its code
     TransmissionError(u8, u8),
     ApplicationError(u8, u8),
     Refused(Refusal),
@@ -34,6 +35,7 @@ fn error_of(transmission: bool, id: u8, payload: &[u8]) -> Meaning
 pub fn meaning_of(kind: u8, payload: &[u8]) -> Meaning
     ensures { λ r. ⌜ IsMeaning kind (now (payload .entry)) r ⌝ }
 {
+    // bits 0 to 4
     let id = kind % 32;
     // bits 7, 6 and 5
     let reply = kind / 128 % 2 == 1;
@@ -53,7 +55,7 @@ pub fn meaning_of(kind: u8, payload: &[u8]) -> Meaning
     Meaning::Request(id)
 }
 
-// 4, 4 and 8 bits. Node 255 is every node.
+// An address has 4, 4 and 8 bits. Node 255 is every node.
 pub struct Address {
     pub network: u8,
     pub subnet: u8,
@@ -74,17 +76,22 @@ pub fn address_of(word: u16) -> Address
     }
 }
 
+// What putting an address together came to.
 pub enum Addressed {
+    // as it stands in a header
     Word(u16),
     // a network or a subnet above 15
     Refused(Refusal),
 }
 
+// The highest number of 4 bits.
+const FOUR_BITS: u8 = 15;
+
 // Whether network and subnet have 4 bits each.
 fn fits(network: u8, subnet: u8) -> bool
     ensures { λ r. ⌜ r ≡ leb network 15 && leb subnet 15 ⌝ }
 {
-    (network <= 15) & (subnet <= 15)
+    (network <= FOUR_BITS) & (subnet <= FOUR_BITS)
 }
 
 // The parts put together.
@@ -102,8 +109,8 @@ pub fn word_of(a: Address) -> Addressed
     let network = a.network;
     let subnet = a.subnet;
     let node = a.node;
-    if fits(network, subnet) {
-        return Addressed::Word(join(network, subnet, node));
+    if !fits(network, subnet) {
+        return Addressed::Refused(Refusal::WrongAddressOrExponentTooLow);
     }
-    Addressed::Refused(Refusal::WrongAddressOrExponentTooLow)
+    Addressed::Word(join(network, subnet, node))
 }

@@ -4,6 +4,7 @@ use mathlib.Core.Bool.{Bool, true, false, cond, not, _&&_, _||_}
 use mathlib.Core.Option.{some}
 use mathlib.Core.List.{List}
 use borrow.Author.Needs.{needs}
+use Rattle.answers.specs.Answer.{need}
 use Rattle.answers.specs.declared.Refusal.the-variants.{NotForThisCall}
 use Rattle.comlynx_meaning.specs.Meaning.{Said, Told, tells, refused, request, reply, transmissionError, applicationError, idOf, isReply, isTransmission, isApplication, coded, meant}
 use Rattle.comlynx_meaning.proofs.meaning_of.Statement.{statement}
@@ -11,7 +12,7 @@ use Rattle.comlynx_meaning.proofs.meaning_of.Tie as tie
 
 -- the tests of the three bits in the code's order
 in-order : (s t a : Bool) (bs : List ℕ) (unfit reply request : Told) (x y : ℕ → Said)
-    → cond s (cond t (cond a unfit (coded x bs)) (cond a (coded y bs) reply)) (cond (t || a) unfit request)
+    → need (s || not (t || a)) unfit (need (not (t && a)) unfit (cond t (coded x bs) (cond a (coded y bs) (cond s reply request))))
     ≡ cond ((t && a) || ((t || a) && not s)) unfit (cond (t || a) (coded (cond t x y) bs) (cond s reply request))
 in-order true true true bs u p q x y = refl
 in-order true true false bs u p q x y = refl
