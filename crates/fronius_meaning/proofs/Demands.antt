@@ -4,7 +4,7 @@ use Prim.Native.Nat.{ℕ, zero, suc, _+_, _*_, _^_, _<_, _≤_}
 use native.Mathlib.Nat.{zero-mul, mul-assoc, mul-comm, mul-left-comm, mul-right-comm, mul-one, mul-pos, one-le-pow}
 use native.Mathlib.Omega.{arith}
 use mathlib.Core.Path.{_≡_, refl, sym, _∙_, ap, subst}
-use mathlib.Core.Bool.{Bool, true, false, not, cond, _&&_}
+use mathlib.Core.Bool.{Bool, true, false, _&&_}
 use mathlib.Core.List.{List}
 use mathlib.Core.Option.{Option, some}
 use lib.Dec.{lit<, eqb}
@@ -17,6 +17,7 @@ use lib.Ieee.Back.{round-whole}
 use lib.Ieee.Scale.{round-same}
 use lib.Ieee.Positive.{first-pos}
 use borrow.Author.Tests.{ne-eqb, ltb-false}
+use Rattle.answers.specs.Answer.{need}
 use Rattle.answers.proofs.NumbersHaveCases.{refusal-above}
 use Rattle.answers.specs.Refusal as Refusal
 use Rattle.answers.specs.declared.Refusal.{Refusal}
@@ -121,7 +122,7 @@ told-number e = cc
 
 -- a reading that was given is the one of the rule
 given-one : (s : List ℕ) (r : Reading) (x : Option Reading) (asked : Bool)
-    → Reading.tells 0 (some r) ≡ cond (not asked) (Reading.refused NotForThisCall) (tested s Reading.refused (Reading.tells 0 x)) → x ≡ some r
+    → Reading.tells 0 (some r) ≡ need asked (Reading.refused NotForThisCall) (tested s Reading.refused (Reading.tells 0 x)) → x ≡ some r
 given-one s r x true h =
     let p : Reading.tells 0 (some r) ≡ Reading.tells 0 x = no-refusal s Reading.refused (Reading.tells 0 x) (Reading.tells 0 (some r)) (reading-tells r) h .0 in
     cc

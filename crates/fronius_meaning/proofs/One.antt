@@ -1,12 +1,15 @@
 -- For each public call of a value: two results that its promise allows are one.
 -- Assumes nothing.
-use Prim.Native.Nat.{ℕ}
+use Prim.Native.Nat.{ℕ, zero, suc, _≤_}
 use native.Mathlib.Omega.{arith}
-use mathlib.Core.Path.{_≡_, sym, ap, _∙_}
+use mathlib.Core.Path.{_≡_, refl, sym, ap, _∙_}
 use mathlib.Core.Bool.{Bool}
+use mathlib.Core.Option.{none, some}
 use mathlib.Core.List.{List}
+use lib.IntN.{pos}
+use Rattle.numbers.proofs.Alike.{alike-by-back}
 use Rattle.answers.specs.Refusal as Refusal
-use Rattle.answers.proofs.NumbersHaveCases.{refusal-alike, refusal-above}
+use Rattle.answers.proofs.NumbersHaveCases.{refusals, refusal-above}
 use Rattle.fronius_meaning.specs.Measured as Measured
 use Rattle.fronius_meaning.specs.Measured.{IsThousandths}
 use Rattle.fronius_meaning.specs.Reading as Reading
@@ -16,30 +19,32 @@ use Rattle.fronius_meaning.specs.declared.measured.Measured.the-variants
 use Rattle.fronius_meaning.specs.declared.reading.Read.{Read}
 use Rattle.fronius_meaning.specs.declared.reading.Read.the-variants as Read
 
--- told alike is one, since a refusal's number is never 0
+-- told alike is one: by the way back
 pub measured-alike : (a b : Measured) → Measured.told a ≡ Measured.told b → a ≡ b
-measured-alike (Thousandths s) (Thousandths t) e = cc
-measured-alike (Thousandths s) (Refused why) e =
-    let zero-told : 0 ≡ Refusal.number why = cc in
-    absurd (omega (arith, refusal-above why))
-measured-alike (Refused why) (Thousandths t) e =
-    let zero-told : Refusal.number why ≡ 0 = cc in
-    absurd (omega (arith, refusal-above why))
-measured-alike (Refused why) (Refused other) e =
-    let same : Refusal.number why ≡ Refusal.number other = cc in
-    ap Refused (refusal-alike why other same)
+measured-alike = alike-by-back Measured.told back there
+  where
+    back : Measured.Told → Measured
+    back (Measured.tells zero t) = Thousandths t
+    back (Measured.tells (suc n) t) = Refused (refusals .back (suc n))
+
+    refused : (n : ℕ) → 8 ≤ n → back (Measured.tells n (pos 0)) ≡ Refused (refusals .back n)
+    refused zero h = absurd (omega arith)
+    refused (suc n) h = refl
+
+    there : (a : Measured) → back (Measured.told a) ≡ a
+    there (Thousandths t) = refl
+    there (Refused why) = refused (Refusal.number why) (refusal-above why) ∙ ap Refused (refusals .case why)
 
 pub read-alike : (a b : Read) → Reading.told a ≡ Reading.told b → a ≡ b
-read-alike (Read.Value r) (Read.Value s) e = cc
-read-alike (Read.Value r) (Read.Refused why) e =
-    let zero-told : 0 ≡ Refusal.number why = cc in
-    absurd (omega (arith, refusal-above why))
-read-alike (Read.Refused why) (Read.Value s) e =
-    let zero-told : Refusal.number why ≡ 0 = cc in
-    absurd (omega (arith, refusal-above why))
-read-alike (Read.Refused why) (Read.Refused other) e =
-    let same : Refusal.number why ≡ Refusal.number other = cc in
-    ap Read.Refused (refusal-alike why other same)
+read-alike = alike-by-back Reading.told back there
+  where
+    back : Reading.Told → Read
+    back (Reading.tells n (some r)) = Read.Value r
+    back (Reading.tells n none) = Read.Refused (refusals .back n)
+
+    there : (a : Read) → back (Reading.told a) ≡ a
+    there (Read.Value r) = refl
+    there (Read.Refused why) = ap Read.Refused (refusals .case why)
 
 pub thousandths-one : (s : List ℕ) (signed : Bool) (a b : Measured) → IsThousandths s signed a → IsThousandths s signed b → a ≡ b
 thousandths-one s signed a b p q = measured-alike a b (p ∙ sym q)

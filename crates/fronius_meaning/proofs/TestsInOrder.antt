@@ -2,11 +2,12 @@
 -- Assumes nothing.
 use Prim.Native.Nat.{ℕ}
 use mathlib.Core.Path.{_≡_, refl}
-use mathlib.Core.Bool.{Bool, true, false, not, cond}
+use mathlib.Core.Bool.{Bool, true, false, not}
 use mathlib.Core.List.{List}
 use lib.Dec.{eqb}
 use lib.ListN.{length}
 use borrow.Author.Tests.{eq-eqb, ne-eqb}
+use Rattle.answers.specs.Answer.{need}
 use Rattle.answers.specs.declared.Refusal.{Refusal}
 use Rattle.answers.specs.declared.Refusal.the-variants.{ExponentTooHigh, WrongAddressOrExponentTooLow, NotForThisCall}
 use Rattle.fronius_meaning.specs.Measured.{exponentByte, exponentOf, tooGreat, tooSmall, tested}
@@ -32,7 +33,7 @@ module _ {A : Type 0} (s : List ℕ) (refused : Refusal → A) (given : A) where
   no-refusal x n e =
       go (eqb (length s) 3) (tooGreat (exponentOf (exponentByte s))) (tooSmall (exponentOf (exponentByte s))) e
     where
-      go : (three great small : Bool) → x ≡ cond (not three) (refused NotForThisCall) (cond great (refused ExponentTooHigh) (cond small (refused WrongAddressOrExponentTooLow) given))
+      go : (three great small : Bool) → x ≡ need three (refused NotForThisCall) (need (not great) (refused ExponentTooHigh) (need (not small) (refused WrongAddressOrExponentTooLow) given))
           → (x ≡ given) × (great ≡ false) × (small ≡ false)
       go true true small p = absurd (n ExponentTooHigh p)
       go true false true p = absurd (n WrongAddressOrExponentTooLow p)

@@ -7,6 +7,7 @@ use lib.Dec.{ltb, eqb}
 use lib.IntN.{ℤ, pos, negℤ, natAbs, _+ℤ_, _-ℤ_, _*ℤ_}
 use lib.ListN.{length, getD}
 use lib.Signed.{ltZ}
+use Rattle.answers.specs.Answer.{need}
 use Rattle.answers.specs.Refusal as Refusal
 use Rattle.answers.specs.declared.Refusal.{Refusal}
 use Rattle.answers.specs.declared.Refusal.the-variants.{ExponentTooHigh, WrongAddressOrExponentTooLow, NotForThisCall}
@@ -53,9 +54,9 @@ tooSmall e = ltZ e (negℤ (pos 3))
 abbrev pub tested : {A : Type 0} → List ℕ → (Refusal → A) → A → A
 tested s refused given =
     let e = exponentOf (exponentByte s) in
-    cond (not (eqb (length s) 3)) (refused NotForThisCall)
-    (cond (tooGreat e) (refused ExponentTooHigh)
-    (cond (tooSmall e) (refused WrongAddressOrExponentTooLow)
+    need (eqb (length s) 3) (refused NotForThisCall)
+    (need (not (tooGreat e)) (refused ExponentTooHigh)
+    (need (not (tooSmall e)) (refused WrongAddressOrExponentTooLow)
     given))
 
 -- the answer number and the thousandths; with a refusal 0 of them

@@ -1,12 +1,13 @@
 -- A reading: what its command asks for, as a double.
 use Prim.Native.Nat.{ℕ, suc, _*_, _^_}
 use mathlib.Core.Path.{_≡_}
-use mathlib.Core.Bool.{Bool, true, false, not, cond, _||_, _&&_}
+use mathlib.Core.Bool.{Bool, true, false, cond, _||_, _&&_}
 use mathlib.Core.List.{List}
 use mathlib.Core.Option.{Option, none, some}
 use lib.Dec.{leb, eqb}
 use lib.IntN.{ℤ, pos, negsuc}
 use lib.Ieee.{Float, binary64, ofInt, div}
+use Rattle.answers.specs.Answer.{need}
 use Rattle.answers.specs.Refusal as Refusal
 use Rattle.answers.specs.declared.Refusal.{Refusal}
 use Rattle.answers.specs.declared.Refusal.the-variants.{NotForThisCall}
@@ -91,7 +92,7 @@ unfoldable pub readingOf : ℕ → ℕ → List ℕ → Told
 unfolding kindOf
 readingOf device command s =
     let kind = kindOf command in
-    cond (not (eqb device 1 && isKind kind)) (refused NotForThisCall)
+    need (eqb device 1 && isKind kind) (refused NotForThisCall)
     (tested s refused (tells 0 (carried kind (doubleOf (wordOf s) (exponentOf (exponentByte s))))))
 
 -- what `reading_of` promises

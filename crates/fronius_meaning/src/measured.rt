@@ -8,16 +8,21 @@ ghost use lib.IntN.{pos, _*ℤ_};
 ghost use lib.Signed.{mag};
 ghost use Rattle.fronius_meaning.specs.Measured.{IsThousandths, exponentOf, tensOf, tooGreat, tooSmall, valueOf};
 
+// What a measured value came to.
 pub enum Measured {
+    // value times ten to the exponent, exactly
     Thousandths(i64),
     Refused(Refusal),
 }
+
+// The data bytes of a measured value.
+pub(crate) const SIZE: usize = 3;
 
 // The data of a message as a measured value. The caller says whether the value is signed; the exponent always is.
 pub fn thousandths(payload: &[u8], signed: bool) -> Measured
     ensures { λ r. ⌜ IsThousandths (now (payload .entry)) signed r ⌝ }
 {
-    if payload.len() != 3 {
+    if payload.len() != SIZE {
         return Measured::Refused(Refusal::NotForThisCall);
     }
     let exponent = payload[2];
@@ -31,17 +36,26 @@ pub fn thousandths(payload: &[u8], signed: bool) -> Measured
     Measured::Thousandths(times_ten_to(v, tens(exponent)))
 }
 
-// An exponent byte is signed, so that from 128 on it stands for a number below 0: FD is -3 and not 253.
+// The highest exponent, and the byte of the lowest.
+const HIGHEST: u8 = 10;
+
+const MINUS_3: u8 = 0xFD;
+
+// The first byte that stands for an exponent below 0. An exponent is signed: FD is -3 and not 253.
+pub(crate) const MINUS: u8 = 128;
+
+// Whether an exponent is above 10.
 pub(crate) fn too_great(exponent: u8) -> bool
     ensures { λ r. ⌜ r ≡ tooGreat (exponentOf exponent) ⌝ }
 {
-    (exponent < 128) & (10 < exponent)
+    (exponent < MINUS) & (HIGHEST < exponent)
 }
 
+// Whether an exponent is below -3.
 pub(crate) fn too_small(exponent: u8) -> bool
     ensures { λ r. ⌜ r ≡ tooSmall (exponentOf exponent) ⌝ }
 {
-    (128 <= exponent) & (exponent < 253)
+    (MINUS <= exponent) & (exponent < MINUS_3)
 }
 
 // How many tens make thousandths of a value: three more than the exponent, which may be below 0, says.
@@ -49,12 +63,13 @@ fn tens(exponent: u8) -> usize
     requires { ⌜ (tooGreat (exponentOf exponent) ≡ false) × (tooSmall (exponentOf exponent) ≡ false) ⌝ }
     ensures { λ r. ⌜ (r ≡ tensOf (exponentOf exponent)) × (r < 14) ⌝ }
 {
-    if exponent < 128 {
+    if exponent < MINUS {
         return (exponent as usize) + 3;
     }
-    (exponent as usize) - 253
+    (exponent - MINUS_3) as usize
 }
 
+// The value of two bytes, which is signed as the caller says.
 fn value(word: u16, signed: bool) -> i64
     ensures { λ r. ⌜ (r ≡ valueOf signed word) × (mag r < 65536) ⌝ }
 {
@@ -75,6 +90,7 @@ fn times_ten_to(v: i64, k: usize) -> i64
     v * (ten_to(k) as i64)
 }
 
+// Ten to 0, to 1, and so on.
 const TENS: [u64; 14] = [
     1,
     10,

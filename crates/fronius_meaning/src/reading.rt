@@ -1,4 +1,6 @@
 // A reading: by its command a power, an energy, a voltage, a current, a frequency, minutes or money, as a double.
+use crate::measured::MINUS;
+use crate::measured::SIZE;
 use crate::measured::ten_to;
 use crate::measured::too_great;
 use crate::measured::too_small;
@@ -13,6 +15,7 @@ ghost use lib.Ieee.{binary64, ofInt, div};
 ghost use Rattle.fronius_meaning.specs.Measured.{exponentOf, tooGreat, tooSmall};
 ghost use Rattle.fronius_meaning.specs.Reading.{IsReading, isPower, isEnergy, isCurrent, isVoltage, isFrequency, isMinutes, isMoney, kindOf, isKind, carried, doubleOf};
 
+// What was measured, in the unit of its kind.
 pub enum Reading {
     // W
     Power(f64),
@@ -28,22 +31,26 @@ pub enum Reading {
     Money(f64),
 }
 
+// What reading a message came to.
 pub enum Read {
     Value(Reading),
     Refused(Refusal),
 }
 
+// The device that has readings: an inverter.
+const INVERTER: u8 = 1;
+
 // What a message of this device and command measures. The value is never signed.
 pub fn reading_of(device: u8, command: u8, payload: &[u8]) -> Read
     ensures { λ r. ⌜ IsReading device command (now (payload .entry)) r ⌝ }
 {
-    if device != 1 {
+    if device != INVERTER {
         return Read::Refused(Refusal::NotForThisCall);
     }
     if !is_reading(command) {
         return Read::Refused(Refusal::NotForThisCall);
     }
-    if payload.len() != 3 {
+    if payload.len() != SIZE {
         return Read::Refused(Refusal::NotForThisCall);
     }
     let exponent = payload[2];
@@ -147,7 +154,7 @@ fn double(w: u16, exponent: u8) -> f64
     requires { ⌜ (tooGreat (exponentOf exponent) ≡ false) × (tooSmall (exponentOf exponent) ≡ false) ⌝ }
     ensures { λ r. ⌜ r ≡ doubleOf w (exponentOf exponent) ⌝ }
 {
-    if exponent < 128 {
+    if exponent < MINUS {
         return whole(w, exponent as usize);
     }
     divided(w, 256 - (exponent as usize))

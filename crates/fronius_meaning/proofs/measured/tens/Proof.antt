@@ -20,6 +20,9 @@ returns c =
 sub-result : tie.Need-sub-result
 sub-result c = omega (arith, not-below _ _ (c .before .args .exponent) (c .if1 .left) (omega arith) (c .before .pre .1))
 
+cast-result : tie.Need-cast-result
+cast-result c = search needs
+
 returns-2 : tie.Need-returns-2
 returns-2 c =
     let e = c .before .args .exponent in
@@ -27,4 +30,4 @@ returns-2 c =
     (omega (arith, ap tensOf (from-half _ e (c .if1 .left) (omega arith)), made-up _ _ (suc-le-suc n)), omega arith)
 
 pub tens-spec : {M : Type 1} → statement M
-tens-spec = tie.close (tie.spec add-result returns sub-result returns-2)
+tens-spec = tie.close (tie.spec add-result returns sub-result cast-result returns-2)
