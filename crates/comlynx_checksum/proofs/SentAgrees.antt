@@ -6,26 +6,17 @@ use mathlib.Core.List.{List, [], _∷_, _++_}
 use Prim.Native.Nat.{ℕ, zero, suc, _+_, _-_, _/_, _%_, _<_}
 use native.Mathlib.Numerals.{add-one}
 use native.Mathlib.Omega.{arith}
-use borrow.Author.Tests.{eq-eqb, eqb-true}
 use lib.Bits.{bitXor, xor-lt}
 use lib.Dec.{T, eqb, ltb, ltb→lt, lt→ltb}
 use lib.ListN.{length, getD, take, drop, length-append, take-append-drop, drop-of-length-le}
 use lib.Pow.{areBytes}
 use lib.Seq.{take-at, drop-at, drop-cons}
 use mir.Facts.{and-yes, yes-and}
-use Rattle.numbers.proofs.Alike.{zero-is-one}
-use Rattle.comlynx_checksum.specs.Fcs.{poly, folded, bitStep, bitSteps, entry, fcsNext, fcsFrom, fcsOf, complement, sentAfter, sent, others, lastTwo, same, agrees, IsSentOf}
+use Rattle.numbers.specs.Lists.{same}
+use Rattle.numbers.proofs.SameLists.{same-refl, same-true}
+use Rattle.comlynx_checksum.specs.Fcs.{poly, folded, bitStep, bitSteps, entry, fcsNext, fcsFrom, fcsOf, complement, sentAfter, sent, others, lastTwo, agrees, IsSentOf}
 use Rattle.comlynx_checksum.specs.declared.Sent.{Sent}
 use Rattle.comlynx_checksum.specs.Demands.{Passes, OnlyThese, Bounds}
-
--- ---- `same` is equality
-
-apart : false ≡ true → ⊥
-apart e = zero-is-one cc
-
-and-true : (a b : Bool) → a && b ≡ true → (a ≡ true) × (b ≡ true)
-and-true true b e = (refl, e)
-and-true false b e = absurd (apart e)
 
 and-last : (b : Bool) → b && true ≡ b
 and-last true = refl
@@ -34,20 +25,6 @@ and-last false = refl
 and-false : (b : Bool) → b && false ≡ false
 and-false true = refl
 and-false false = refl
-
-same-refl : (s : List ℕ) → same s s ≡ true
-unfolding same
-same-refl [] = refl
-same-refl (x ∷ s) = rw (eq-eqb x x refl) (same-refl s)
-
-same-true : (s t : List ℕ) → same s t ≡ true → s ≡ t
-unfolding same
-same-true [] [] e = refl
-same-true [] (y ∷ t) e = absurd (apart e)
-same-true (x ∷ s) [] e = absurd (apart e)
-same-true (x ∷ s) (y ∷ t) e =
-    let b = and-true (eqb x y) (same s t) e in
-    ap₂ (λ (z : ℕ) (u : List ℕ). z ∷ u) (eqb-true x y (b .0)) (same-true s t (b .1))
 
 -- ---- what is sent agrees, and nothing else
 
@@ -78,7 +55,7 @@ two-left l k e =
 
 pub agrees-by-bytes : (l : List ℕ) (k : ℕ) → length l ≡ k + 2
     → agrees l ≡ eqb (getD l k 0) (complement (fcsOf (take k l)) % 256) && eqb (getD l (k + 1) 0) (complement (fcsOf (take k l)) / 256)
-unfolding agrees same sent sentAfter
+unfolding agrees sent sentAfter
 agrees-by-bytes l k e =
     let n : length l - 2 ≡ k = omega arith in
     ap (λ (i : ℕ). same (drop i l) (sent (take i l))) n
@@ -86,7 +63,7 @@ agrees-by-bytes l k e =
     ∙ ap (λ (b : Bool). eqb (getD l k 0) (complement (fcsOf (take k l)) % 256) && b) (and-last _)
 
 pub too-short : (l : List ℕ) → length l < 2 → agrees l ≡ false
-unfolding agrees same sent sentAfter
+unfolding agrees sent sentAfter
 too-short [] h = refl
 too-short (x ∷ []) h = and-false (eqb x _)
 too-short (x ∷ y ∷ l) h = absurd (omega arith)

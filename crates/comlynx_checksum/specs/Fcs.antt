@@ -3,10 +3,10 @@
 use Prim.Native.Nat.{ℕ, zero, suc, _-_, _/_, _%_}
 use mathlib.Core.Path.{_≡_}
 use mathlib.Core.List.{List, [], _∷_}
-use mathlib.Core.Bool.{Bool, true, false, _&&_}
+use mathlib.Core.Bool.{Bool}
 use lib.Bits.{bitXor}
-use lib.Dec.{eqb}
 use lib.ListN.{length, take, drop}
+use Rattle.numbers.specs.Lists.{same}
 use Rattle.comlynx_checksum.specs.declared.Sent.{Sent}
 
 -- ---- an entry: the reversed polynomial 8408 applied eight times to the index
@@ -65,12 +65,6 @@ others l = take (length l - 2) l
 
 abbrev pub lastTwo : List ℕ → List ℕ
 lastTwo l = drop (length l - 2) l
-
-unfoldable pub same : List ℕ → List ℕ → Bool
-same [] [] = true
-same [] (y ∷ t) = false
-same (x ∷ s) [] = false
-same (x ∷ s) (y ∷ t) = eqb x y && same s t
 
 unfoldable pub agrees : List ℕ → Bool
 agrees l = same (lastTwo l) (sent (others l))

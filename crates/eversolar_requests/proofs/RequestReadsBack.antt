@@ -2,7 +2,7 @@
 -- Assumes nothing.
 use Prim.Native.Nat.{ℕ, _≤_, _<_}
 use mathlib.Core.Path.{_≡_, sym, subst}
-use mathlib.Core.Bool.{Bool, true, false, _&&_}
+use mathlib.Core.Bool.{Bool, true, false}
 use mathlib.Core.Option.{some}
 use mathlib.Core.List.{List, [], _∷_, _++_}
 use lib.ListN.{length, take, length-append}
@@ -10,7 +10,7 @@ use lib.Dec.{T, leb}
 use lib.Pow.{areBytes}
 use borrow.Author.Tests.{le-ltb, leb-true, eqb-true}
 use native.Mathlib.Omega.{arith}
-use Rattle.numbers.proofs.Alike.{zero-is-one}
+use Rattle.numbers.proofs.SameLists.{both}
 use Rattle.answers.specs.Written.{lengthOf, Writes}
 use Rattle.answers.specs.declared.Written.{Written}
 use Rattle.stream.specs.Event.{message, gives}
@@ -19,7 +19,7 @@ use Rattle.stream.proofs.BytesOfParts.{bytes-cons, bytes-append}
 use Rattle.eversolar.specs.Wire.{Message, Takes, payloadMax, wire}
 use Rattle.eversolar.specs.Machine.{fresh}
 use Rattle.eversolar.specs.Reader.{IsStep}
-use Rattle.numbers.specs.Addresses.{isAddress, isSerial}
+use Rattle.numbers.specs.Addresses.{lastAddress, isAddress, isSerial}
 use Rattle.eversolar_requests.specs.Requests.{request, askAll, giveAddress, askOne, IsAskAll, IsAskOne, IsGiveAddress}
 use Rattle.eversolar.specs.Demands.{eversolar}
 use Rattle.eversolar_requests.specs.declared.ToAll.{ToAll}
@@ -57,12 +57,8 @@ ask-all-reads-back what room frame w n h e = reads-as (askAll what) room frame w
     takes Reconnect = dataless (omega arith) (omega arith) (omega arith)
     takes ReRegister = dataless (omega arith) (omega arith) (omega arith)
 
-and-right : (a b : Bool) → (a && b) ≡ true → b ≡ true
-and-right true b e = e
-and-right false b e = zero-is-one cc
-
 address-byte : (address : ℕ) → isAddress address ≡ true → address < 256
-address-byte address e = omega (arith, leb-true address 254 (and-right (leb 1 address) (leb address 254) e))
+address-byte address e = omega (arith, leb-true address lastAddress (both (leb 1 address) (leb address lastAddress) e .1))
 
 pub ask-one-reads-back : (what : ToOne) (address : ℕ) (room frame : List ℕ) (w : Written) (n : ℕ) → IsAskOne what address room w frame → lengthOf w ≡ some n
     → ReadsAs (askOne what address) frame n

@@ -10,6 +10,7 @@ use lib.ListN.{length, getD, drop, set}
 use lib.Dec.{eqb, leb}
 use borrow.Author.Tests.{leb-true, eq-eqb, ne-eqb, not-true, not-false}
 use Rattle.numbers.specs.Addresses.{isAddress}
+use Rattle.numbers.proofs.SameLists.{both}
 use Rattle.answers.specs.declared.Refusal.the-variants.{RosterFull, WrongAddressOrExponentTooLow, NotForThisCall, Spoilt}
 use Rattle.roster.specs.Roster.{places, serialSize, freePlace, usedPlace, free, usedBy, first, noPlace, spoilt, givingSound, giving, noneAt, removing, finding}
 use Rattle.roster.specs.Bytes.{rosterSize, placesOf, bytesOf}
@@ -21,7 +22,6 @@ use Rattle.roster.specs.declared.Given.the-variants as Given
 use Rattle.roster.specs.declared.Removed.the-variants as Removed
 use Rattle.roster.specs.declared.Found.the-variants as Found
 use Rattle.roster.proofs.PlacesInBytes.{bytes-places, count-places}
-use Rattle.roster.proofs.SoundTest.{both}
 
 pub first-most : (test : Place → Bool) (ps : List Place) → first test ps ≤ length ps
 first-most test [] = omega arith

@@ -12,26 +12,15 @@ use lib.Dec.{eqb}
 use borrow.Author.Tests.{eqb-true, eq-eqb, ne-eqb, not-true}
 use Rattle.numbers.specs.Lists.{same}
 use Rattle.numbers.proofs.Alike.{zero-is-one}
+use Rattle.numbers.proofs.SameLists.{both, same-refl, same-true}
 use Rattle.roster.specs.Roster.{serialSize, usedPlace, freePlace, used, free, usedBy, good, first, noPlace, alone, sound}
 use Rattle.roster.specs.declared.Place.{Place}
-use Rattle.roster.proofs.SoundTest.{both, eqb-alike, Fine}
+use Rattle.roster.proofs.SoundTest.{eqb-alike, Fine}
 
 pub no : {A : Type 0} → true ≡ false → A
 no e = zero-is-one cc
 
 -- ---- serials
-
-pub same-refl : (s : List ℕ) → same s s ≡ true
-same-refl [] = refl
-same-refl (x ∷ s) = simp (eq-eqb x x refl) (same-refl s)
-
-pub same-true : (s t : List ℕ) → same s t ≡ true → s ≡ t
-same-true [] [] e = refl
-same-true [] (y ∷ t) e = no (sym e)
-same-true (x ∷ s) [] e = no (sym e)
-same-true (x ∷ s) (y ∷ t) e =
-    let two = both (eqb x y) (same s t) e in
-    ap (λ (h : ℕ). h ∷ s) (eqb-true x y (two .0)) ∙ ap (λ (r : List ℕ). y ∷ r) (same-true s t (two .1))
 
 pub same-other : (s t : List ℕ) → (s ≡ t → ⊥) → same s t ≡ false
 same-other s t h = go (same s t) refl

@@ -12,6 +12,7 @@ use lib.Dec.{eqb}
 use borrow.Author.Tests.{eqb-true, eqb-false, eq-eqb, ne-eqb, not-false}
 use Rattle.numbers.specs.Lists.{same}
 use Rattle.numbers.proofs.Alike.{zero-is-one}
+use Rattle.numbers.proofs.SameLists.{both}
 use Rattle.roster.specs.Roster.{places, serialSize, freePlace, used, free, usedBy, good, first, alone, sound, spoilt}
 use Rattle.roster.specs.Bytes.{placeSize, rosterSize, placesOf, Whole}
 use Rattle.roster.specs.Inside.{placeIn, soundAt}
@@ -19,10 +20,6 @@ use Rattle.roster.specs.declared.Place.{Place}
 use Rattle.roster.proofs.PlacesInBytes.{bytes-places, next-place, count-places, whole-bytes}
 
 -- ---- tests
-
-pub both : (a b : Bool) → (a && b) ≡ true → (a ≡ true) × (b ≡ true)
-both true b e = (refl, e)
-both false b e = let z : false ≡ true = e in (z, cc)
 
 pub eqb-alike : (a b c d : ℕ) → (a ≡ b → c ≡ d) → (c ≡ d → a ≡ b) → eqb a b ≡ eqb c d
 eqb-alike a b c d to back = go (eqb a b) refl
