@@ -274,49 +274,49 @@ fn table() -> [u16; 256]
     TABLE
 }
 
-// One byte.
-fn next(t: &[u16; 256], f: u16, b: u8) -> u16
-    requires { ⌜ now t ≡ fcsTable ⌝ }
-    ensures { λ r. ⌜ r ≡ fcsNext f b ⌝ }
+// The state after one byte more.
+fn next(table: &[u16; 256], state: u16, byte: u8) -> u16
+    requires { ⌜ now table ≡ fcsTable ⌝ }
+    ensures { λ r. ⌜ r ≡ fcsNext state byte ⌝ }
 {
-    (f >> 8) ^ t[((f ^ (b as u16)) & 0xff) as usize]
+    (state >> 8) ^ table[((state ^ (byte as u16)) & 0xff) as usize]
 }
 
-// All bytes of a slice: the one loop.
-fn run(t: &[u16; 256], from: u16, s: &[u8]) -> u16
-    requires { ⌜ now t ≡ fcsTable ⌝ }
-    ensures { λ r. ⌜ IsMore from (now (s .entry)) r ⌝ }
+// The state after all bytes of a slice. Every call goes by this one loop.
+fn run(table: &[u16; 256], from: u16, bytes: &[u8]) -> u16
+    requires { ⌜ now table ≡ fcsTable ⌝ }
+    ensures { λ r. ⌜ IsMore from (now (bytes .entry)) r ⌝ }
 {
-    let mut f = from;
+    let mut state = from;
     let mut i = 0;
-    while i < s.len() {
-        f = next(t, f, s[i]);
+    while i < bytes.len() {
+        state = next(table, state, bytes[i]);
         i += 1;
     }
-    f
+    state
 }
 
-// The checksum going on from the state `f` over the bytes of `s`.
-pub fn more(f: u16, s: &[u8]) -> u16
-    ensures { λ r. ⌜ IsMore f (now (s .entry)) r ⌝ }
+// The checksum going on from a state over more bytes.
+pub fn more(state: u16, bytes: &[u8]) -> u16
+    ensures { λ r. ⌜ IsMore state (now (bytes .entry)) r ⌝ }
 {
-    let t = table();
-    run(&t, f, s)
+    let entries = table();
+    run(&entries, state, bytes)
 }
 
-// The checksum of the bytes of `s`, before the complement.
-pub fn of(s: &[u8]) -> u16
-    ensures { λ r. ⌜ IsOf (now (s .entry)) r ⌝ }
+// The checksum of bytes, before the complement.
+pub fn of(bytes: &[u8]) -> u16
+    ensures { λ r. ⌜ IsOf (now (bytes .entry)) r ⌝ }
 {
-    more(START, s)
+    more(START, bytes)
 }
 
-// The checksum of the first `n` bytes of `s`, of all of it where it has fewer.
-pub fn of_first(s: &[u8], n: usize) -> u16
-    ensures { λ r. ⌜ IsOfFirst (now (s .entry)) n r ⌝ }
+// The checksum of the first `n` bytes, or of all where there are fewer.
+pub fn of_first(bytes: &[u8], n: usize) -> u16
+    ensures { λ r. ⌜ IsOfFirst (now (bytes .entry)) n r ⌝ }
 {
-    let end = least(n, s.len());
-    of(&s[..end])
+    let end = least(n, bytes.len());
+    of(&bytes[..end])
 }
 
 // The two bytes that follow a body, in the order in which they are sent.
@@ -325,12 +325,12 @@ pub struct Sent {
     pub high: u8,
 }
 
-// What is sent after the state `f`: its complement.
-pub fn sent_of(f: u16) -> Sent
-    ensures { λ r. ⌜ IsSentOf f r ⌝ }
+// What is sent after a state: its complement.
+pub fn sent_of(state: u16) -> Sent
+    ensures { λ r. ⌜ IsSentOf state r ⌝ }
 {
-    let c = !f;
-    let low = (c % 256) as u8;
-    let high = (c / 256) as u8;
+    let complement = !state;
+    let low = (complement % 256) as u8;
+    let high = (complement / 256) as u8;
     Sent { low, high }
 }

@@ -18,7 +18,7 @@ least-requires c κs = search needs
 slice-aggregate-of : tie.Need-slice-aggregate-of
 slice-aggregate-of c =
     let a = c .before .before .before .args in
-    sym (length-take-le (c .before .least .result) (a .s .now) (omega (arith, min-le-right (a .n) (length (a .s .now)))))
+    sym (length-take-le (c .before .least .result) (a .bytes .now) (omega (arith, min-le-right (a .n) (length (a .bytes .now)))))
 
 of-requires : tie.Need-of-requires
 of-requires c κs = search needs
@@ -27,7 +27,7 @@ returns : tie.Need-returns
 returns c =
     let a = c .before .before .before .before .args in
     let l = c .before .before .least in
-    c .of .ensures ∙ ap (λ (i : ℕ). fcsOf (take i (a .s .now))) (l .ensures) ∙ ap fcsOf (take-least (a .n) (a .s .now))
+    c .of .ensures ∙ ap (λ (i : ℕ). fcsOf (take i (a .bytes .now))) (l .ensures) ∙ ap fcsOf (take-least (a .n) (a .bytes .now))
 
 pub of-first-spec : {M : Type 1} → statement M
 of-first-spec = tie.close (tie.spec least-requires slice-aggregate-of of-requires returns)

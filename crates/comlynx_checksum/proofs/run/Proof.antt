@@ -11,10 +11,10 @@ use Rattle.comlynx_checksum.proofs.run.Statement.{statement}
 use Rattle.comlynx_checksum.proofs.run.Tie as tie
 
 abbrev Inv-loop : tie.InvT-loop
-Inv-loop t from s f₀ i₀ f i = (i ≤ length s) × (fcsFrom f (drop i s) ≡ fcsFrom from s)
+Inv-loop table from bytes state₀ i₀ state i = (i ≤ length bytes) × (fcsFrom state (drop i bytes) ≡ fcsFrom from bytes)
 
 abbrev μ-loop : tie.MeasureT-loop
-μ-loop t from s f₀ i₀ f i = length s - i
+μ-loop table from bytes state₀ i₀ state i = length bytes - i
 
 loop-holds : tie.Need-loop-holds Inv-loop μ-loop
 loop-holds c = (search needs, refl)
@@ -34,7 +34,7 @@ loop-less c = search needs
 loop-again : tie.Need-loop-again Inv-loop μ-loop
 loop-again c =
     let l = c .before .before .before .loop in
-    (omega arith, turn _ (l .f) (l .i) (c .next .result) _ (omega arith) (c .next .ensures) (l .inv .1))
+    (omega arith, turn _ (l .state) (l .i) (c .next .result) _ (omega arith) (c .next .ensures) (l .inv .1))
 
 returns : tie.Need-returns Inv-loop μ-loop
 returns c = ended _ _ (c .before .loop .i) _ (omega arith) (c .before .loop .inv .1)
