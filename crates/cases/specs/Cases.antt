@@ -10,7 +10,7 @@ use lib.Ieee.{binary64, ofInt}
 use Rattle.answers.specs.Answer.{answer}
 use Rattle.stream.specs.Event.{Event, message, damage}
 use Rattle.stream.specs.Rule.{Settled}
-use Rattle.comlynx_checksum.specs.Fcs.{fcsOf, sent}
+use Rattle.comlynx_checksum.specs.Checksum.{checksumOf, sent}
 use Rattle.comlynx.specs.Wire as ComLynxWire
 use Rattle.comlynx.specs.Rules as ComLynxRules
 use Rattle.eversolar.specs.Wire as EversolarWire
@@ -46,7 +46,7 @@ reads m n = some (record { event = message m; used = n })
 abbrev pub cases : List Case
 cases =
     -- P1: the ComLynx ping of L1: checksum state 6E86, sent 79 91
-    case 1 (fcsOf (0xFF ∷ 0x03 ∷ 0x00 ∷ 0x02 ∷ 0x11 ∷ 0xFF ∷ 0x00 ∷ 0x15 ∷ [])) 0x6E86
+    case 1 (checksumOf (0xFF ∷ 0x03 ∷ 0x00 ∷ 0x02 ∷ 0x11 ∷ 0xFF ∷ 0x00 ∷ 0x15 ∷ [])) 0x6E86
     ∷ case 1 (sent (0xFF ∷ 0x03 ∷ 0x00 ∷ 0x02 ∷ 0x11 ∷ 0xFF ∷ 0x00 ∷ 0x15 ∷ [])) (0x79 ∷ 0x91 ∷ [])
     ∷ case 1 (ComLynxWire.wire ping) (0x7E ∷ 0xFF ∷ 0x03 ∷ 0x00 ∷ 0x02 ∷ 0x11 ∷ 0xFF ∷ 0x00 ∷ 0x15 ∷ 0x79 ∷ 0x91 ∷ 0x7E ∷ [])
     -- the frame of L1

@@ -11,7 +11,7 @@ use lib.Pow.{areBytes}
 use borrow.Author.Tests.{eqb-true}
 use native.Mathlib.Omega.{arith}
 use Rattle.numbers.proofs.Alike.{zero-is-one}
-use Rattle.comlynx_checksum.specs.Fcs.{sent, others, agrees}
+use Rattle.comlynx_checksum.specs.Checksum.{sent, others, agrees}
 use Rattle.comlynx_checksum.proofs.SentAgrees.{only-these}
 use Rattle.stream.specs.Event.{message, damage}
 use Rattle.stream.proofs.BytesOfParts.{bytes-head, bytes-tail, bytes-take, bytes-drop}

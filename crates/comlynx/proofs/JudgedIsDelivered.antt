@@ -11,7 +11,7 @@ use borrow.Author.Tests.{eq-eqb, ne-eqb, leb-true}
 use native.Mathlib.Omega.{arith}
 use Rattle.answers.proofs.NumbersHaveCases.{refusals, damages}
 use Rattle.answers.specs.declared.Damage.the-variants.{WrongBodyLength, WrongStart, WrongSize, WrongSum}
-use Rattle.comlynx_checksum.specs.Fcs.{fcsOf, agrees, IsSentOf}
+use Rattle.comlynx_checksum.specs.Checksum.{checksumOf, agrees, IsSentOf}
 use Rattle.comlynx_checksum.specs.declared.Sent.{Sent}
 use Rattle.comlynx_checksum.proofs.SentAgrees.{agrees-by-bytes, sent-low, sent-high}
 use Rattle.stream.proofs.ListLaws.{drop-take}
@@ -102,10 +102,10 @@ module _ (n : ℕ) (held : List ℕ) (full : length held ≡ 265) (fits : sized 
       )
 
   -- the checksum agrees where the last two are those that are due
-  agrees-due : (sum : ℕ) (d : Sent) → sum ≡ fcsOf (take (n - 2) held) → IsSentOf sum d → agrees (take n held) ≡ due n (d .low) (d .high) held
+  agrees-due : (sum : ℕ) (d : Sent) → sum ≡ checksumOf (take (n - 2) held) → IsSentOf sum d → agrees (take n held) ≡ due n (d .low) (d .high) held
   agrees-due sum d e s =
       let last : n - 2 + 1 ≡ n - 1 = omega (arith, least) in
-      let same : fcsOf (take (n - 2) (take n held)) ≡ sum = ap fcsOf (take-take (n - 2) n held (omega arith)) ∙ sym e in
+      let same : checksumOf (take (n - 2) (take n held)) ≡ sum = ap checksumOf (take-take (n - 2) n held (omega arith)) ∙ sym e in
       agrees-by-bytes (take n held) (n - 2) (omega (arith, taken, least))
       ∙ rw (same, ← sent-low sum d s, ← sent-high sum d s, at-place (n - 2) (omega (arith, least)), last, at-place (n - 1) (omega (arith, least)))
 
@@ -135,7 +135,7 @@ module _ (n low high : ℕ) (held : List ℕ) (full : length held ≡ 265) where
           (ap (λ (h : Header). gives (message h)) (sym (held-header n held full fits)))
 
 -- a stretch that closes, judged by what is due
-pub closes : (n sum : ℕ) (held : List ℕ) (d : Sent) → length held ≡ 265 → sum ≡ fcsOf (take (n - 2) held) → IsSentOf sum d
+pub closes : (n sum : ℕ) (held : List ℕ) (d : Sent) → length held ≡ 265 → sum ≡ checksumOf (take (n - 2) held) → IsSentOf sum d
     → closed n held ≡ judged n (due n (d .low) (d .high) held) (take n held)
 unfolding judged
 closes n sum held d full e s = go (sized n) refl

@@ -14,7 +14,7 @@ use native.Mathlib.Numerals.{add-one}
 use native.Mathlib.Nat.{lt-of-not-le}
 use native.Mathlib.Decide.{decLe}
 use native.Mathlib.Omega.{arith}
-use Rattle.comlynx_checksum.specs.Fcs.{agrees}
+use Rattle.comlynx_checksum.specs.Checksum.{agrees}
 use Rattle.stream.specs.Event.{Event, damage}
 use Rattle.stream.specs.Rule.{Settled}
 use Rattle.stream.proofs.FamilyFacts.{Follows}

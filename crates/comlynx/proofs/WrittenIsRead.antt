@@ -11,7 +11,7 @@ use lib.Dec.{T}
 use lib.Pow.{areBytes}
 use borrow.Author.Tests.{eq-eqb, ne-eqb, le-leb}
 use native.Mathlib.Omega.{arith}
-use Rattle.comlynx_checksum.specs.Fcs.{sentAfter, sent, agrees}
+use Rattle.comlynx_checksum.specs.Checksum.{sentAfter, sent, agrees}
 use Rattle.comlynx_checksum.proofs.SentAgrees.{passes, bounds}
 use Rattle.stream.specs.Event.{Event, message}
 use Rattle.stream.specs.Rule.{Settled}

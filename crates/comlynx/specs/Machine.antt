@@ -5,7 +5,7 @@ use mathlib.Core.Option.{none, some}
 use mathlib.Core.List.{List}
 use lib.ListN.{take, set, replicate}
 use lib.Dec.{eqb, ltb, leb}
-use Rattle.comlynx_checksum.specs.Fcs.{agrees}
+use Rattle.comlynx_checksum.specs.Checksum.{agrees}
 use Rattle.stream.specs.Event.{Event, damage}
 use Rattle.stream.specs.Pieces.{Moved}
 use Rattle.comlynx.specs.Wire.{Message, flag, escape}

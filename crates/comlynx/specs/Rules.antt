@@ -6,7 +6,7 @@ use mathlib.Core.Option.{Option, none, some}
 use mathlib.Core.List.{List, [], _∷_, _++_}
 use lib.ListN.{length, getD}
 use lib.Dec.{eqb, leb}
-use Rattle.comlynx_checksum.specs.Fcs.{agrees}
+use Rattle.comlynx_checksum.specs.Checksum.{agrees}
 use Rattle.stream.specs.Event.{Event, message, damage}
 use Rattle.stream.specs.Rule.{Settled}
 use Rattle.comlynx.specs.Wire.{Message, messageOf, flag, escape}

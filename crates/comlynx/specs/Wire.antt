@@ -5,7 +5,7 @@ use mathlib.Core.List.{List, [], _∷_, _++_}
 use lib.ListN.{length, take, drop, getD}
 use lib.Dec.{T, eqb}
 use lib.Pow.{areBytes}
-use Rattle.comlynx_checksum.specs.Fcs.{sent}
+use Rattle.comlynx_checksum.specs.Checksum.{sent}
 
 pub record Message : Type 0 where
   pub source : ℕ

@@ -14,8 +14,8 @@ use lib.Dec.{leb}
 use lib.ListN.{length, getD, take, drop, drop-of-length-le}
 use lib.Pow.{split}
 use lib.Seq.{drop-cons, take-suc, take-all, take-length}
-use Rattle.comlynx_checksum.specs.Fcs.{poly, folded, bitStep, bitSteps, entry, fcsNext, fcsFrom, fcsOf}
-use Rattle.comlynx_checksum.specs.Table.{fcsTable}
+use Rattle.comlynx_checksum.specs.Checksum.{poly, folded, bitStep, bitSteps, entry, checksumNext, checksumFrom, checksumOf}
+use Rattle.comlynx_checksum.specs.Table.{checksumTable}
 use Rattle.comlynx_checksum.proofs.TableByRule.{getD-tabulate}
 
 -- ---- exclusive-or is associative
@@ -88,15 +88,15 @@ eight x =
 low-xor : (f b : ℕ) → b < 256 → bitXor f b % 256 ≡ bitXor (f % 256) b
 low-xor f b h = xor-mod f b 8 ∙ ap (bitXor (f % 256)) (mod-eq-of-lt h)
 
-pub next-by-bits : (f b : ℕ) → b < 256 → bitSteps 8 (bitXor f b) ≡ fcsNext f b
-unfolding fcsNext
+pub next-by-bits : (f b : ℕ) → b < 256 → bitSteps 8 (bitXor f b) ≡ checksumNext f b
+unfolding checksumNext
 next-by-bits f b h =
     eight (bitXor f b)
     ∙ ap₂ (λ (x y : ℕ). bitXor x (entry y))
     (xor-shr f b 8 ∙ ap (bitXor (f / 256)) (omega arith) ∙ xor-zero-r (f / 256)) (low-xor f b h)
 
-pub next-by-table : (f b : ℕ) → b < 256 → bitXor (f / 256) (getD fcsTable (bitAnd (bitXor f b) 255) 0) ≡ fcsNext f b
-unfolding fcsNext fcsTable
+pub next-by-table : (f b : ℕ) → b < 256 → bitXor (f / 256) (getD checksumTable (bitAnd (bitXor f b) 255) 0) ≡ checksumNext f b
+unfolding checksumNext checksumTable
 next-by-table f b h =
     ap (bitXor (f / 256))
     (getD-tabulate entry 256 (bitAnd (bitXor f b) 255) (mask-lt (bitXor f b) 8)
@@ -105,31 +105,31 @@ next-by-table f b h =
 -- ---- a loop over the bytes of a list, with f the state so far and i the place
 
 -- one turn
-pub turn : (l : List ℕ) (f i g r : ℕ) → i < length l → g ≡ fcsNext f (getD l i 0) → fcsFrom f (drop i l) ≡ r → fcsFrom g (drop (i + 1) l) ≡ r
-unfolding fcsFrom
+pub turn : (l : List ℕ) (f i g r : ℕ) → i < length l → g ≡ checksumNext f (getD l i 0) → checksumFrom f (drop i l) ≡ r → checksumFrom g (drop (i + 1) l) ≡ r
+unfolding checksumFrom
 turn l f i g r h e q = rw (e, add-one) (rw (drop-cons l i 0) at q)
 
 -- the end
-pub ended : (l : List ℕ) (f i r : ℕ) → length l ≤ i → fcsFrom f (drop i l) ≡ r → f ≡ r
-unfolding fcsFrom
+pub ended : (l : List ℕ) (f i r : ℕ) → length l ≤ i → checksumFrom f (drop i l) ≡ r → f ≡ r
+unfolding checksumFrom
 ended l f i r h q = rw (drop-of-length-le l h) at q
 
 -- ---- a list after another, one byte more, and one byte more of a list's first
 
-pub from-append : (s t : List ℕ) (f : ℕ) → fcsFrom f (s ++ t) ≡ fcsFrom (fcsFrom f s) t
-unfolding fcsFrom
+pub from-append : (s t : List ℕ) (f : ℕ) → checksumFrom f (s ++ t) ≡ checksumFrom (checksumFrom f s) t
+unfolding checksumFrom
 from-append [] t f = refl
-from-append (b ∷ s) t f = from-append s t (fcsNext f b)
+from-append (b ∷ s) t f = from-append s t (checksumNext f b)
 
-pub of-append : (s t : List ℕ) → fcsOf (s ++ t) ≡ fcsFrom (fcsOf s) t
-unfolding fcsOf
+pub of-append : (s t : List ℕ) → checksumOf (s ++ t) ≡ checksumFrom (checksumOf s) t
+unfolding checksumOf
 of-append s t = from-append s t _
 
-pub of-snoc : (s : List ℕ) (b : ℕ) → fcsOf (s ++ b ∷ []) ≡ fcsNext (fcsOf s) b
-unfolding fcsFrom
+pub of-snoc : (s : List ℕ) (b : ℕ) → checksumOf (s ++ b ∷ []) ≡ checksumNext (checksumOf s) b
+unfolding checksumFrom
 of-snoc s b = of-append s (b ∷ [])
 
-pub of-take : (s : List ℕ) (i : ℕ) → i < length s → fcsOf (take (i + 1) s) ≡ fcsNext (fcsOf (take i s)) (getD s i 0)
+pub of-take : (s : List ℕ) (i : ℕ) → i < length s → checksumOf (take (i + 1) s) ≡ checksumNext (checksumOf (take i s)) (getD s i 0)
 of-take s i h = rw (add-one, take-suc s i 0) (of-snoc (take i s) (getD s i 0))
 
 -- ---- the first n bytes of a list that may have fewer

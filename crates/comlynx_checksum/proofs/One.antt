@@ -3,7 +3,7 @@
 use mathlib.Core.Path.{_≡_, sym, ap₂, _∙_}
 use mathlib.Core.List.{List, [], _∷_}
 use Prim.Native.Nat.{ℕ}
-use Rattle.comlynx_checksum.specs.Fcs.{IsOf, IsOfFirst, IsMore, IsSentOf}
+use Rattle.comlynx_checksum.specs.Checksum.{IsOf, IsOfFirst, IsMore, IsSentOf}
 use Rattle.comlynx_checksum.specs.declared.Sent.{Sent}
 
 pub of-one : (s : List ℕ) (r r' : ℕ) → IsOf s r → IsOf s r' → r ≡ r'

@@ -14,7 +14,7 @@ use lib.Seq.{take-at, drop-at, drop-cons}
 use mir.Facts.{and-yes, yes-and}
 use Rattle.numbers.specs.Lists.{same}
 use Rattle.numbers.proofs.SameLists.{same-refl, same-true}
-use Rattle.comlynx_checksum.specs.Fcs.{poly, folded, bitStep, bitSteps, entry, fcsNext, fcsFrom, fcsOf, complement, sentAfter, sent, others, lastTwo, agrees, IsSentOf}
+use Rattle.comlynx_checksum.specs.Checksum.{poly, folded, bitStep, bitSteps, entry, checksumNext, checksumFrom, checksumOf, complement, sentAfter, sent, others, lastTwo, agrees, IsSentOf}
 use Rattle.comlynx_checksum.specs.declared.Sent.{Sent}
 use Rattle.comlynx_checksum.specs.Demands.{Passes, OnlyThese, Bounds}
 
@@ -54,13 +54,13 @@ two-left l k e =
     ∙ ap₂ (λ (i : ℕ) (t : List ℕ). getD l i 0 ∷ t) (sym (add-one k)) (drop-of-length-le l {i = suc (suc k)} (omega arith)))
 
 pub agrees-by-bytes : (l : List ℕ) (k : ℕ) → length l ≡ k + 2
-    → agrees l ≡ eqb (getD l k 0) (complement (fcsOf (take k l)) % 256) && eqb (getD l (k + 1) 0) (complement (fcsOf (take k l)) / 256)
+    → agrees l ≡ eqb (getD l k 0) (complement (checksumOf (take k l)) % 256) && eqb (getD l (k + 1) 0) (complement (checksumOf (take k l)) / 256)
 unfolding agrees sent sentAfter
 agrees-by-bytes l k e =
     let n : length l - 2 ≡ k = omega arith in
     ap (λ (i : ℕ). same (drop i l) (sent (take i l))) n
     ∙ ap (λ (x : List ℕ). same x (sent (take k l))) (two-left l k e)
-    ∙ ap (λ (b : Bool). eqb (getD l k 0) (complement (fcsOf (take k l)) % 256) && b) (and-last _)
+    ∙ ap (λ (b : Bool). eqb (getD l k 0) (complement (checksumOf (take k l)) % 256) && b) (and-last _)
 
 pub too-short : (l : List ℕ) → length l < 2 → agrees l ≡ false
 unfolding agrees sent sentAfter
@@ -90,21 +90,21 @@ unfolding bitSteps bitStep
 steps-lt zero x h = h
 steps-lt (suc n) x h = steps-lt n (bitStep x) (folded-lt (x % 2) (x / 2) (omega arith))
 
-pub next-lt : (f b : ℕ) → f < 65536 → b < 256 → fcsNext f b < 65536
-unfolding fcsNext entry
+pub next-lt : (f b : ℕ) → f < 65536 → b < 256 → checksumNext f b < 65536
+unfolding checksumNext entry
 next-lt f b hf hb =
     xor-lt 16 (f / 256) (entry (bitXor (f % 256) b)) (omega arith)
     (steps-lt 8 (bitXor (f % 256) b) (xor-lt 16 (f % 256) b (omega arith) (omega arith)))
 
-pub from-lt : (s : List ℕ) (f : ℕ) → f < 65536 → T (areBytes s) → fcsFrom f s < 65536
-unfolding fcsFrom
+pub from-lt : (s : List ℕ) (f : ℕ) → f < 65536 → T (areBytes s) → checksumFrom f s < 65536
+unfolding checksumFrom
 from-lt [] f h t = h
 from-lt (b ∷ s) f h t =
     let u = and-yes (ltb b 256) (areBytes s) t in
-    from-lt s (fcsNext f b) (next-lt f b h (ltb→lt b 256 (u .0))) (u .1)
+    from-lt s (checksumNext f b) (next-lt f b h (ltb→lt b 256 (u .0))) (u .1)
 
-pub of-lt : (s : List ℕ) → T (areBytes s) → fcsOf s < 65536
-unfolding fcsOf
+pub of-lt : (s : List ℕ) → T (areBytes s) → checksumOf s < 65536
+unfolding checksumOf
 of-lt s t = from-lt s _ (omega arith) t
 
 -- of any state: a complement has 16 bits
@@ -116,4 +116,4 @@ sent-after-bytes f =
 
 pub bounds : Bounds
 unfolding sent
-bounds s t = (of-lt s t, sent-after-bytes (fcsOf s))
+bounds s t = (of-lt s t, sent-after-bytes (checksumOf s))

@@ -6,7 +6,7 @@ use mathlib.Core.List.{List, _++_}
 use mathlib.Core.Bool.{true}
 use lib.Dec.{T}
 use lib.Pow.{areBytes}
-use Rattle.comlynx_checksum.specs.Fcs.{fcsOf, sent, others, agrees}
+use Rattle.comlynx_checksum.specs.Checksum.{checksumOf, sent, others, agrees}
 
 -- the checksum agrees for what is sent, whatever the bytes
 abbrev pub Passes : Type 0
@@ -18,4 +18,4 @@ OnlyThese = (l : List ℕ) → agrees l ≡ true → l ≡ others l ++ sent (oth
 
 -- the checksum of bytes is a word, and what is sent are bytes
 abbrev pub Bounds : Type 0
-Bounds = (s : List ℕ) → T (areBytes s) → (fcsOf s < 65536) × T (areBytes (sent s))
+Bounds = (s : List ℕ) → T (areBytes s) → (checksumOf s < 65536) × T (areBytes (sent s))

@@ -1,3 +1,3 @@
-pub mod Fcs
+pub mod Checksum
 pub mod Table
 pub mod Demands

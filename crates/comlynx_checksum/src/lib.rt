@@ -1,8 +1,8 @@
 // The checksum of ComLynx, CRC-16/X-25, of slices of bytes.
 use numbers::least;
 ghost use mathlib.Core.Path.{_≡_};
-ghost use Rattle.comlynx_checksum.specs.Fcs.{fcsNext, IsOf, IsOfFirst, IsMore, IsSentOf};
-ghost use Rattle.comlynx_checksum.specs.Table.{fcsTable};
+ghost use Rattle.comlynx_checksum.specs.Checksum.{checksumNext, IsOf, IsOfFirst, IsMore, IsSentOf};
+ghost use Rattle.comlynx_checksum.specs.Table.{checksumTable};
 
 // The state before the first byte.
 const START: u16 = 0xffff;
@@ -269,22 +269,22 @@ const TABLE: [u16; 256] = [
 
 // The entries as a value, for a caller to keep while it runs: the constant named at each byte would be built anew there.
 fn table() -> [u16; 256]
-    ensures { λ r. ⌜ r ≡ fcsTable ⌝ }
+    ensures { λ r. ⌜ r ≡ checksumTable ⌝ }
 {
     TABLE
 }
 
 // The state after one byte more.
 fn next(table: &[u16; 256], state: u16, byte: u8) -> u16
-    requires { ⌜ now table ≡ fcsTable ⌝ }
-    ensures { λ r. ⌜ r ≡ fcsNext state byte ⌝ }
+    requires { ⌜ now table ≡ checksumTable ⌝ }
+    ensures { λ r. ⌜ r ≡ checksumNext state byte ⌝ }
 {
     (state >> 8) ^ table[((state ^ (byte as u16)) & 0xff) as usize]
 }
 
 // The state after all bytes of a slice. Every call goes by this one loop.
 fn run(table: &[u16; 256], from: u16, bytes: &[u8]) -> u16
-    requires { ⌜ now table ≡ fcsTable ⌝ }
+    requires { ⌜ now table ≡ checksumTable ⌝ }
     ensures { λ r. ⌜ IsMore from (now (bytes .entry)) r ⌝ }
 {
     let mut state = from;

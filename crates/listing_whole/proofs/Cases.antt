@@ -1,7 +1,7 @@
 -- Document 01's own listings, by computation.
 -- Assumes nothing.
 use mathlib.Core.Path.{refl}
-use Rattle.comlynx_checksum.specs.Fcs.{folded, bitStep, bitSteps, entry, fcsNext, fcsFrom, fcsOf, sentAfter, sent, agrees}
+use Rattle.comlynx_checksum.specs.Checksum.{folded, bitStep, bitSteps, entry, checksumNext, checksumFrom, checksumOf, sentAfter, sent, agrees}
 use Rattle.comlynx.specs.Wire as ComLynxWire
 use Rattle.comlynx.specs.Rules as ComLynxRules
 use Rattle.uplink.specs.Packet as Packet
@@ -11,7 +11,7 @@ use Rattle.listing_whole.specs.Listing.{byPacket, byEnd, listingOf}
 use Rattle.listing_whole.specs.Cases.{L1, Nothing}
 
 pub l1 : L1
-unfolding listingOf byPacket byEnd Packet.versionOf Packet.known Packet.counted Packet.marked Packet.carried Packet.packetAt seatAt hexDigit decimal ComLynxWire.body ComLynxRules.judged ComLynxRules.judge ComLynxRules.within ComLynxRules.before folded bitStep bitSteps entry fcsNext fcsFrom fcsOf sentAfter sent agrees
+unfolding listingOf byPacket byEnd Packet.versionOf Packet.known Packet.counted Packet.marked Packet.carried Packet.packetAt seatAt hexDigit decimal ComLynxWire.body ComLynxRules.judged ComLynxRules.judge ComLynxRules.within ComLynxRules.before folded bitStep bitSteps entry checksumNext checksumFrom checksumOf sentAfter sent agrees
 l1 = refl
 
 pub nothing : Nothing

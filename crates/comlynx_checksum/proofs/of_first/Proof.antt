@@ -7,7 +7,7 @@ use native.Mathlib.Omega.{arith}
 use borrow.Author.Needs.{needs}
 use lib.ListN.{length, take}
 use lib.Seq.{length-take-le}
-use Rattle.comlynx_checksum.specs.Fcs.{fcsOf}
+use Rattle.comlynx_checksum.specs.Checksum.{checksumOf}
 use Rattle.comlynx_checksum.proofs.ChecksumByBytes.{take-least}
 use Rattle.comlynx_checksum.proofs.of_first.Statement.{statement}
 use Rattle.comlynx_checksum.proofs.of_first.Tie as tie
@@ -27,7 +27,7 @@ returns : tie.Need-returns
 returns c =
     let a = c .before .before .before .before .args in
     let l = c .before .before .least in
-    c .of .ensures ∙ ap (λ (i : ℕ). fcsOf (take i (a .bytes .now))) (l .ensures) ∙ ap fcsOf (take-least (a .n) (a .bytes .now))
+    c .of .ensures ∙ ap (λ (i : ℕ). checksumOf (take i (a .bytes .now))) (l .ensures) ∙ ap checksumOf (take-least (a .n) (a .bytes .now))
 
 pub of-first-spec : {M : Type 1} → statement M
 of-first-spec = tie.close (tie.spec least-requires slice-aggregate-of of-requires returns)

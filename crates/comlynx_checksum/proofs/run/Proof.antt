@@ -5,13 +5,13 @@ use Prim.Native.Nat.{_≤_, _-_}
 use native.Mathlib.Omega.{arith}
 use borrow.Author.Needs.{needs}
 use lib.ListN.{length, drop}
-use Rattle.comlynx_checksum.specs.Fcs.{fcsFrom}
+use Rattle.comlynx_checksum.specs.Checksum.{checksumFrom}
 use Rattle.comlynx_checksum.proofs.ChecksumByBytes.{turn, ended}
 use Rattle.comlynx_checksum.proofs.run.Statement.{statement}
 use Rattle.comlynx_checksum.proofs.run.Tie as tie
 
 abbrev Inv-loop : tie.InvT-loop
-Inv-loop table from bytes state₀ i₀ state i = (i ≤ length bytes) × (fcsFrom state (drop i bytes) ≡ fcsFrom from bytes)
+Inv-loop table from bytes state₀ i₀ state i = (i ≤ length bytes) × (checksumFrom state (drop i bytes) ≡ checksumFrom from bytes)
 
 abbrev μ-loop : tie.MeasureT-loop
 μ-loop table from bytes state₀ i₀ state i = length bytes - i

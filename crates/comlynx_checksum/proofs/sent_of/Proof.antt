@@ -1,7 +1,7 @@
 -- `comlynx_checksum::sent_of` meets its contract: the complement, in two parts.
 -- Assumes nothing.
 use borrow.Author.Needs.{needs}
-use Rattle.comlynx_checksum.specs.Fcs.{sentAfter}
+use Rattle.comlynx_checksum.specs.Checksum.{sentAfter}
 use Rattle.comlynx_checksum.proofs.sent_of.Statement.{statement}
 use Rattle.comlynx_checksum.proofs.sent_of.Tie as tie
 

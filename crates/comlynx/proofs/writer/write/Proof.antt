@@ -1,7 +1,7 @@
 use mathlib.Core.Path.{subst}
 use Rattle.comlynx.proofs.StoresMakeFrame.{framed-length}
 use mathlib.Core.List.{List, [], _∷_}
-use Rattle.comlynx_checksum.specs.Fcs.{sent}
+use Rattle.comlynx_checksum.specs.Checksum.{sent}
 use Rattle.comlynx.specs.Wire.{lead, covered, stuffed}
 use Rattle.comlynx.proofs.WriterWritesFrame.{asked, no-room, done, too-long}
 use native.Mathlib.Omega.{arith}

@@ -1,7 +1,7 @@
 use mathlib.Core.List.{List}
 use mathlib.Core.Option.{Option, none, some}
 use lib.ListN.{length-map}
-use Rattle.comlynx_checksum.specs.Fcs.{fcsOf}
+use Rattle.comlynx_checksum.specs.Checksum.{checksumOf}
 use Rattle.stream.specs.Event.{Event, gives}
 use Rattle.stream.specs.Event as Event
 use Rattle.stream.specs.Call.{Seen, retold, delivered}
@@ -77,10 +77,10 @@ N c = ended c .end .given .0 .0
 abbrev right : tie.After-judge → Bool
 right c = let d = c .before .before .before .before .sent-of .result in due (N c) (d .low) (d .high) (held (ran c))
 
-summed : (c : tie.After-judge) → c .before .before .before .before .before .of-first .result ≡ fcsOf (take (N c - 2) (held (ran c)))
+summed : (c : tie.After-judge) → c .before .before .before .before .before .of-first .result ≡ checksumOf (take (N c - 2) (held (ran c)))
 summed c =
     let q = c .before .before .before .before .before in
-    q .of-first .ensures ∙ ap (λ (k : ℕ). fcsOf (take k (held (ran c)))) (q .before .covered .ensures)
+    q .of-first .ensures ∙ ap (λ (k : ℕ). checksumOf (take k (held (ran c)))) (q .before .covered .ensures)
 
 event : (c : tie.After-judge) → closed (N c) (held (ran c)) ≡ judged (N c) (right c) (take (N c) (held (ran c)))
 event c =

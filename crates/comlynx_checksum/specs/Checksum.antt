@@ -31,20 +31,20 @@ entry i = bitSteps 8 i
 
 -- ---- a byte b: shift the state f right by 8, then exclusive-or with the entry chosen by the low byte exclusive-or b
 
-unfoldable pub fcsNext : ℕ → ℕ → ℕ
-fcsNext f b = bitXor (f / 256) (entry (bitXor (f % 256) b))
+unfoldable pub checksumNext : ℕ → ℕ → ℕ
+checksumNext f b = bitXor (f / 256) (entry (bitXor (f % 256) b))
 
 -- the bytes of a list, one after another, going on from the state f
-unfoldable pub fcsFrom : ℕ → List ℕ → ℕ
-fcsFrom f [] = f
-fcsFrom f (b ∷ s) = fcsFrom (fcsNext f b) s
+unfoldable pub checksumFrom : ℕ → List ℕ → ℕ
+checksumFrom f [] = f
+checksumFrom f (b ∷ s) = checksumFrom (checksumNext f b) s
 
 -- the checksum of a list, before the complement: it starts at FFFF
 abbrev pub start : ℕ
 start = 0xFFFF
 
-unfoldable pub fcsOf : List ℕ → ℕ
-fcsOf s = fcsFrom start s
+unfoldable pub checksumOf : List ℕ → ℕ
+checksumOf s = checksumFrom start s
 
 -- ---- the complement is sent, low byte first
 
@@ -56,7 +56,7 @@ sentAfter f = complement f % 256 ∷ complement f / 256 ∷ []
 
 -- the two bytes that are sent after the bytes s
 unfoldable pub sent : List ℕ → List ℕ
-sent s = sentAfter (fcsOf s)
+sent s = sentAfter (checksumOf s)
 
 -- ---- the checksum of a whole body agrees: its last two bytes are those that are sent after the others
 
@@ -73,15 +73,15 @@ agrees l = same (lastTwo l) (sent (others l))
 
 -- `of`: the checksum of s
 abbrev pub IsOf : List ℕ → ℕ → Type 0
-IsOf s r = r ≡ fcsOf s
+IsOf s r = r ≡ checksumOf s
 
 -- `of_first`: the checksum of the first n bytes of s, of all of it where it has fewer
 abbrev pub IsOfFirst : List ℕ → ℕ → ℕ → Type 0
-IsOfFirst s n r = r ≡ fcsOf (take n s)
+IsOfFirst s n r = r ≡ checksumOf (take n s)
 
 -- `more`: the checksum going on from the state f over s
 abbrev pub IsMore : ℕ → List ℕ → ℕ → Type 0
-IsMore f s r = r ≡ fcsFrom f s
+IsMore f s r = r ≡ checksumFrom f s
 
 -- `sent_of`: the two bytes that are sent after the state f
 abbrev pub IsSentOf : ℕ → Sent → Type 0
