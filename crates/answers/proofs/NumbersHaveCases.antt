@@ -11,7 +11,7 @@ use Rattle.answers.specs.Answer.{Answer, answer}
 use Rattle.answers.specs.Refusal as Refusal
 use Rattle.answers.specs.Damage as Damage
 use Rattle.answers.specs.Written as Written
-use Rattle.answers.specs.Demands.{Numbers, Refusals, Damages}
+use Rattle.answers.specs.Demands.{Refusals, Damages}
 use Rattle.answers.specs.declared.Refusal.{Refusal}
 use Rattle.answers.specs.declared.Refusal.the-variants.{TooLong, NoRoom, WrongMark, WrongVersion, WrongPortOrCount, BytesMissing, RosterFull, ExponentTooHigh, WrongAddressOrExponentTooLow, NotForThisCall, Spoilt, TooManyPackets}
 use Rattle.answers.specs.declared.Damage.{Damage}

@@ -4,14 +4,18 @@ use libc::STDIN_FILENO;
 use libc::STDOUT_FILENO;
 use roster::Given;
 
-// What a call told as one number: the address, or its answer number from 1,000 on.
+// What is added to the number of a refusal, so that it is no address.
+const REFUSED: u64 = 1000;
+
+// What a call told as one number: the address, or a refusal's number from 1,000 on.
 fn told(given: Given) -> u64 {
     match given {
         Given::Address(address) => address as u64,
-        Given::Refused(why) => 1000 + why.number() as u64,
+        Given::Refused(why) => REFUSED + why.number() as u64,
     }
 }
 
+// Gives a serial its address so many times, and adds up what was told.
 fn given(all: &mut [u8], serial: &[u8], times: u8) -> u64 {
     let mut sum: u64 = 0;
     let mut n: u8 = 0;

@@ -9,7 +9,7 @@ use native.Mathlib.Omega.{arith}
 use lib.ListN.{length, getD, set, length-set}
 use lib.Seq.{set-out}
 use lib.Dec.{eqb}
-use borrow.Author.Tests.{eqb-true, eq-eqb, ne-eqb, not-true}
+use borrow.Author.Tests.{eq-eqb, ne-eqb, not-true}
 use Rattle.numbers.specs.Lists.{same}
 use Rattle.numbers.proofs.Alike.{zero-is-one}
 use Rattle.numbers.proofs.SameLists.{both, same-refl, same-true}

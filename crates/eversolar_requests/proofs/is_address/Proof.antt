@@ -1,4 +1,3 @@
-use Rattle.numbers.specs.Addresses.{isAddress}
 use borrow.Author.Needs.{needs}
 use Rattle.eversolar_requests.proofs.is_address.Statement.{statement}
 use Rattle.eversolar_requests.proofs.is_address.Tie as tie
