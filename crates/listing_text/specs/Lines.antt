@@ -1,11 +1,18 @@
 -- The text of each line of a listing, byte by byte, and what the calls that write them promise.
 use Prim.Native.Nat.{ℕ, zero, suc, _+_, _/_, _%_}
+use Prim.Native.Char.{code}
+use Prim.Native.String.{String, [] as []ˢ, _∷_ as _∷ˢ_}
 use mathlib.Core.Bool.{Bool, false, cond, _||_}
 use mathlib.Core.List.{List, [], _∷_, _++_}
 use lib.ListN.{length}
 use lib.Dec.{ltb}
 use Rattle.answers.specs.Written.{Writes}
 use Rattle.answers.specs.declared.Written.{Written}
+
+-- a text as its bytes
+abbrev pub text : String → List ℕ
+text []ˢ = []
+text (c ∷ˢ s) = code c ∷ text s
 
 -- ---- fields
 
@@ -40,17 +47,9 @@ line [] = 10 ∷ []
 line (f ∷ []) = f ++ (10 ∷ [])
 line (f ∷ g ∷ fs) = f ++ (32 ∷ line (g ∷ fs))
 
--- the header, `port answer from to code data`
+-- the header
 abbrev pub titleLine : List ℕ
-titleLine =
-    line
-    ((112 ∷ 111 ∷ 114 ∷ 116 ∷ [])
-    ∷ (97 ∷ 110 ∷ 115 ∷ 119 ∷ 101 ∷ 114 ∷ [])
-    ∷ (102 ∷ 114 ∷ 111 ∷ 109 ∷ [])
-    ∷ (116 ∷ 111 ∷ [])
-    ∷ (99 ∷ 111 ∷ 100 ∷ 101 ∷ [])
-    ∷ (100 ∷ 97 ∷ 116 ∷ 97 ∷ [])
-    ∷ [])
+titleLine = text "port answer from to code data\n"
 
 -- a message as a listing shows it, of whatever family: four lists of bytes
 pub record Shown : Type 0 where
@@ -72,14 +71,14 @@ damageLine port number = line (decimal port ∷ decimal number ∷ [])
 
 -- `stop` and the number of the refusal
 abbrev pub stopWord : List ℕ
-stopWord = 115 ∷ 116 ∷ 111 ∷ 112 ∷ []
+stopWord = text "stop"
 
 abbrev pub stopLine : (number : ℕ) → List ℕ
 stopLine number = line (stopWord ∷ decimal number ∷ [])
 
 -- `end` and both counts
 abbrev pub endWord : List ℕ
-endWord = 101 ∷ 110 ∷ 100 ∷ []
+endWord = text "end"
 
 abbrev pub endLine : (messages damages : ℕ) → List ℕ
 endLine messages damages = line (endWord ∷ decimal messages ∷ decimal damages ∷ [])
@@ -94,7 +93,7 @@ fieldMax = 255
 abbrev pub tooLong : Shown → Bool
 tooLong m = ltb fieldMax (length (m .from)) || ltb fieldMax (length (m .to)) || ltb fieldMax (length (m .code)) || ltb fieldMax (length (m .payload))
 
--- `head`
+-- `title`
 abbrev pub IsTitle : List ℕ → Written → List ℕ → Type 0
 IsTitle = Writes false titleLine
 
