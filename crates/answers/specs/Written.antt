@@ -21,6 +21,15 @@ abbrev pub lengthOf : Written → Option ℕ
 lengthOf (Done length) = some length
 lengthOf (Refused why) = none
 
+-- the same as a number, 0 where nothing was
+abbrev pub lengthIn : Written → ℕ
+lengthIn (Done length) = length
+lengthIn (Refused why) = 0
+
+-- what `Written::length` promises
+abbrev pub IsLength : Written → ℕ → Type 0
+IsLength w n = n ≡ lengthIn w
+
 -- what `Written::number` promises
 abbrev pub IsWrittenNumber : Written → ℕ → Type 0
 IsWrittenNumber w n = n ≡ number (told w)

@@ -1,7 +1,7 @@
 // The answer numbers of document 01 as types: what a call refuses, what a reader finds damaged, what a writer wrote.
 ghost use Rattle.answers.specs.Refusal.{IsRefusalNumber};
 ghost use Rattle.answers.specs.Damage.{IsDamageNumber};
-ghost use Rattle.answers.specs.Written.{IsWrittenNumber};
+ghost use Rattle.answers.specs.Written.{IsLength, IsWrittenNumber};
 
 // Why a call refused. A case carries nothing, so that no two of them can be told alike.
 pub enum Refusal {
@@ -92,6 +92,16 @@ impl Damage {
 }
 
 impl Written {
+    // How many bytes were written: none with a refusal.
+    pub fn length(self) -> usize
+        ensures { λ n. ⌜ IsLength self n ⌝ }
+    {
+        match self {
+            Written::Done(length) => length,
+            Written::Refused(_) => 0,
+        }
+    }
+
     pub fn number(self) -> u8
         ensures { λ n. ⌜ IsWrittenNumber self n ⌝ }
     {
