@@ -6,7 +6,7 @@ use mathlib.Core.Bool.{true}
 use mathlib.Core.Option.{none}
 use mathlib.Core.List.{List, [], _∷_, _++_, map}
 use lib.ListN.{length, take, drop}
-use lib.Seq.{take-at, take-append-seam, drop-append-seam, drop-drop}
+use lib.Seq.{take-append-seam, drop-append-seam, drop-drop}
 use lib.Dec.{T, eqb}
 use lib.Pow.{areBytes}
 use native.Mathlib.Omega.{arith}
@@ -17,7 +17,7 @@ use Rattle.stream.proofs.Demands.{written-bytes}
 use Rattle.uplink.specs.Packet.{leadLength, known, versionOf, counted, takes, portIn, countIn, packet, packetAt}
 use Rattle.uplink.proofs.PacketTests.{both, takes-count}
 use Rattle.uplink.proofs.AcceptedIsWritten.{tested, reads-packet}
-use Rattle.uplink.proofs.Demands.{Put, put, packet-length}
+use Rattle.uplink.proofs.Demands.{Put, put}
 use Rattle.ports.specs.Ports.{Seat, seats, sumOver, rowOf}
 use Rattle.ports.proofs.EveryRow.{factsOf, OnSeat}
 use Rattle.ports.proofs.TableLaws.{sums-alike, sums-to-none}
@@ -63,8 +63,7 @@ cut-packed ps bytes no-more n h = cut-nil n
 cut-packed ps bytes (and-one p lent later w k wr told more) zero h = absurd (omega arith)
 cut-packed ps bytes (and-one {ps = qs} {bytes = rest} p lent later w k wr told more) (suc n) h =
     let t = put (p .port) (p .piece) lent later w k wr told in
-    let front : take k later ≡ packet (p .port) (p .piece) = ap (take k) (t .left) ∙ take-at (packet (p .port) (p .piece)) (drop k lent) k (packet-length (p .port) (p .piece) ∙ sym (t .long)) in
-    ap (λ (l : List ℕ). cut (suc n) (l ++ rest)) front ∙ cut-one p rest (t .taken) n (record { packets = qs; stop = none }) (cut-packed qs rest more n (omega arith))
+    ap (λ (l : List ℕ). cut (suc n) (l ++ rest)) (t .front) ∙ cut-one p rest (t .taken) n (record { packets = qs; stop = none }) (cut-packed qs rest more n (omega arith))
 
 -- their entries are on the lines' ports
 on-seats : (port : ℕ) → OnSeat port → (es : List (Event Shown)) (later : List Entry) → OnSeats later → OnSeats (entriesOn port es ++ later)

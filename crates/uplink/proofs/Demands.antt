@@ -1,54 +1,53 @@
 -- The demands of specs/Demands.antt, each under its name. Assumes nothing.
 use Prim.Native.Nat.{ℕ, _+_}
 use mathlib.Core.Path.{_≡_, refl, sym, ap, _∙_}
+use mathlib.Core.Option.{some}
 use mathlib.Core.List.{List, [], _∷_, _++_}
 use mathlib.Core.Bool.{Bool, true, false}
 use native.Mathlib.Omega.{arith}
 use lib.ListN.{length, take, drop}
 use lib.Seq.{slice, take-at}
-use lib.Dec.{leb}
 use Rattle.answers.specs.Answer.{Answer, answer}
-use Rattle.answers.specs.Refusal.{refused}
 use Rattle.answers.specs.Written as Written
-use Rattle.answers.specs.declared.Refusal.{Refusal}
-use Rattle.answers.specs.declared.Refusal.the-variants.{NoRoom, WrongPortOrCount}
+use Rattle.answers.specs.Written.{Writes}
+use Rattle.answers.specs.declared.Refusal.the-variants.{WrongPortOrCount}
 use Rattle.answers.specs.declared.Written.{Written}
-use Rattle.uplink.specs.Packet.{need, known, takes, leadLength, packet, told, packetAt, written, IsWritten}
+use Rattle.answers.specs.declared.Written.the-variants.{Done, Refused}
+use Rattle.answers.proofs.WriterPromise.{writes-frame, writes-nothing}
+use Rattle.uplink.specs.Packet.{known, takes, leadLength, packet, told, packetAt, written, IsWritten}
 use Rattle.uplink.specs.Demands.{ReadsBack, Begins, Accepts, Kept, Fits}
-use Rattle.uplink.proofs.PacketTests.{counted-within}
+use Rattle.uplink.proofs.PacketTests.{counted-within, packet-length, by-writer}
 use Rattle.uplink.proofs.AcceptedIsWritten.{held, never, tested, port-within, begins, reads-packet}
 
 -- ---- what is written
 
--- where the writer's answer is 0 it took the line, and left the packet and what stood behind it
-pub record Put (port : ℕ) (piece lent later : List ℕ) (n : ℕ) : Type 0 where
+-- where the writer's answer is 0 it took the line, and the packet stands at the front
+pub record Put (port : ℕ) (piece later : List ℕ) (n : ℕ) : Type 0 where
   pub taken : takes port (length piece) ≡ true
   pub long : n ≡ leadLength + length piece
-  pub left : later ≡ packet port piece ++ drop n lent
+  pub front : take n later ≡ packet port piece
 
-pub put : (port : ℕ) (piece lent later : List ℕ) (w : Written) (n : ℕ) → IsWritten port piece lent w later → Written.told w ≡ answer 0 (n ∷ []) → Put port piece lent later n
+length-told : (w : Written) (n : ℕ) → Written.told w ≡ answer 0 (n ∷ []) → Written.lengthOf w ≡ some n
+length-told (Done m) n e = let same : m ≡ n = cc in ap some same
+length-told (Refused why) n e = absurd (never 1 why (n ∷ []) e)
+
+-- a writer's promise, where the line is taken
+as-writer : (port : ℕ) (piece lent later : List ℕ) (w : Written) → takes port (length piece) ≡ true → IsWritten port piece lent w later
+    → Writes false (packet port piece) lent w later
+as-writer port piece lent later w t p = rw (by-writer port piece lent t) at p
+
+pub put : (port : ℕ) (piece lent later : List ℕ) (w : Written) (n : ℕ) → IsWritten port piece lent w later → Written.told w ≡ answer 0 (n ∷ []) → Put port piece later n
 unfolding written
 put port piece lent later w n p e =
     let tells : Answer × List ℕ → Answer = λ a. a .0 in
-    let t1 = held tells (takes port (length piece)) 1 WrongPortOrCount _ _ (n ∷ []) refl (sym (p .0) ∙ e) in
-    let t2 = held tells (leb (leadLength + length piece) (length lent)) 1 NoRoom _ _ (n ∷ []) refl (t1 .1) in
-    let found : answer 0 ((leadLength + length piece) ∷ []) ≡ answer 0 (n ∷ []) = t2 .1 in
-    let long : leadLength + length piece ≡ n = cc in
-    let now : written port piece lent .1 ≡ packet port piece ++ drop (leadLength + length piece) lent = simp (t1 .0, t2 .0) in
-    record {
-      taken = t1 .0;
-      long = sym long;
-      left = p .1 ∙ now ∙ ap (λ (k : ℕ). packet port piece ++ drop k lent) long;
-    }
-
-pub packet-length : (port : ℕ) (piece : List ℕ) → length (packet port piece) ≡ leadLength + length piece
-packet-length port piece = omega arith
+    let t = held tells (takes port (length piece)) 1 WrongPortOrCount _ _ (n ∷ []) refl (sym (p .0) ∙ e) .0 in
+    let f = writes-frame false (packet port piece) lent later w n (as-writer port piece lent later w t p) (length-told w n e) in
+    record { taken = t; long = f .1 ∙ packet-length port piece; front = f .0 }
 
 pub reads-back : ReadsBack
 reads-back port piece lent later rest w n p e =
     let t = put port piece lent later w n p e in
-    let front : take n later ≡ packet port piece = ap (take n) (t .left) ∙ take-at (packet port piece) (drop n lent) n (packet-length port piece ∙ sym (t .long)) in
-    let whole : take n later ++ rest ≡ packet port piece ++ rest = ap (λ (x : List ℕ). x ++ rest) front in (
+    let whole : take n later ++ rest ≡ packet port piece ++ rest = ap (λ (x : List ℕ). x ++ rest) (t .front) in (
       λ r q. q ∙ ap packetAt whole ∙ reads-packet port piece rest (t .taken) ∙ ap (λ (k : ℕ). answer 0 (port ∷ length piece ∷ k ∷ [])) (sym (t .long)),
       ap (slice leadLength n) whole ∙ ap (drop leadLength) (take-at (packet port piece) rest n (packet-length port piece ∙ sym (t .long))),
     )
@@ -81,14 +80,10 @@ fits s r port count used p e =
 
 -- ---- what is refused
 
-by-tests : (taken fits : Bool) (why : Refusal) (lent later packed : List ℕ) (n : ℕ)
-    → (let end : Answer × List ℕ = need taken (refused 1 WrongPortOrCount, lent) (need fits (refused 1 NoRoom, lent) (answer 0 (n ∷ []), packed)) in
-    refused 1 why ≡ end .0 → later ≡ end .1 → later ≡ lent)
-by-tests false fits why lent later packed n p q = q
-by-tests true false why lent later packed n p q = q
-by-tests true true why lent later packed n p q = absurd (never 1 why (n ∷ []) p)
-
 pub kept : Kept
 unfolding written
-kept port piece lent later why p =
-    by-tests (takes port (length piece)) (leb (leadLength + length piece) (length lent)) why lent later _ _ (p .0) (p .1)
+kept port piece lent later why p = go (takes port (length piece)) refl
+  where
+    go : (t : Bool) → takes port (length piece) ≡ t → later ≡ lent
+    go true t = writes-nothing false (packet port piece) lent later (Refused why) (as-writer port piece lent later (Refused why) t p) refl
+    go false t = rw t at (p .1)

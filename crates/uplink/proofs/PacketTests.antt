@@ -10,12 +10,15 @@ use lib.Seq.{take-all, take-length, drop-drop, sets, sets-eq}
 use lib.Dec.{leb, eqb}
 use borrow.Author.Tests.{leb-true, le-leb, lt-leb}
 use borrow.Rule.Slice.PartMut.{putMid}
-use Rattle.answers.specs.Answer.{answer}
+use Rattle.answers.specs.Answer.{answer, need}
 use Rattle.answers.specs.Refusal.{refused}
+use Rattle.answers.specs.Written.{writing, Writes}
+use Rattle.answers.proofs.WriterPromise.{writes-no-room, writes-done}
 use Rattle.answers.specs.declared.Refusal.the-variants.{NoRoom, WrongMark, WrongVersion, WrongPortOrCount, BytesMissing}
+use Rattle.answers.specs.declared.Written.{Written}
 use Rattle.answers.specs.declared.Written.the-variants.{Done, Refused as NotWritten}
 use Rattle.uplink.specs.declared.Received.the-variants.{Packet, Refused}
-use Rattle.uplink.specs.Packet.{need, versionOf, known, counted, leadLength, pieceMax, lead, packet, marked, versionIn, portIn, countIn, carried, packetAt, takes, written, IsRead, IsWritten}
+use Rattle.uplink.specs.Packet.{versionOf, known, counted, leadLength, pieceMax, lead, packet, marked, versionIn, portIn, countIn, carried, packetAt, takes, written, IsRead, IsWritten}
 
 -- ---- tests
 
@@ -85,21 +88,32 @@ module _ (s : List ℕ) where
 
 -- ---- what the writer leaves
 
+pub packet-length : (port : ℕ) (piece : List ℕ) → length (packet port piece) ≡ leadLength + length piece
+packet-length port piece = omega arith
+
 module _ (port : ℕ) (piece lent : List ℕ) where
   pub not-taken : takes port (length piece) ≡ false → IsWritten port piece lent (NotWritten WrongPortOrCount) lent
   unfolding written
   not-taken t = (simp t, simp t)
 
-  pub no-room : takes port (length piece) ≡ true → length lent < leadLength + length piece → IsWritten port piece lent (NotWritten NoRoom) lent
+  -- one that takes the line ends as every writer does
+  pub by-writer : takes port (length piece) ≡ true → written port piece lent ≡ writing false (packet port piece) lent
   unfolding written
-  no-room t h = (simp (t, lt-leb (leadLength + length piece) (length lent) h), simp (t, lt-leb (leadLength + length piece) (length lent) h))
+  by-writer t = simp t
+
+  pub writes : (w : Written) (later : List ℕ) → takes port (length piece) ≡ true → Writes false (packet port piece) lent w later
+      → IsWritten port piece lent w later
+  writes w later t x = rw (by-writer t) x
+
+  pub no-room : takes port (length piece) ≡ true → length lent < leadLength + length piece → IsWritten port piece lent (NotWritten NoRoom) lent
+  no-room t h = writes (NotWritten NoRoom) lent t (writes-no-room (packet port piece) lent (omega arith))
 
   pub is-written : (later : List ℕ) → takes port (length piece) ≡ true → leadLength + length piece ≤ length lent
       → later ≡ packet port piece ++ drop (leadLength + length piece) lent
       → IsWritten port piece lent (Done (leadLength + length piece)) later
-  unfolding written
   is-written later t h e =
-      (simp (t, le-leb (leadLength + length piece) (length lent) h), e ∙ simp (t, le-leb (leadLength + length piece) (length lent) h))
+      let long = packet-length port piece in
+      writes (Done (leadLength + length piece)) later t (rw (e, sym long) (writes-done (packet port piece) lent (omega arith)))
 
 -- src copied to the front of `&mut l[at..]`
 mid-paste : (l m src : List ℕ) (at : ℕ)

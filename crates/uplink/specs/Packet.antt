@@ -2,13 +2,14 @@
 use Prim.Native.Nat.{ℕ, _+_, _*_, _/_, _%_}
 use mathlib.Core.Path.{_≡_}
 use mathlib.Core.List.{List, [], _∷_, _++_}
-use mathlib.Core.Bool.{Bool, cond, _&&_}
-use lib.ListN.{length, getD, drop}
+use mathlib.Core.Bool.{Bool, false, cond, _&&_}
+use lib.ListN.{length, getD}
 use lib.Dec.{leb, eqb}
-use Rattle.answers.specs.Answer.{Answer, answer}
+use Rattle.answers.specs.Answer.{Answer, answer, need}
 use Rattle.answers.specs.Refusal.{refused}
 use Rattle.answers.specs.Written as Written
-use Rattle.answers.specs.declared.Refusal.the-variants.{NoRoom, WrongMark, WrongVersion, WrongPortOrCount, BytesMissing}
+use Rattle.answers.specs.Written.{writing}
+use Rattle.answers.specs.declared.Refusal.the-variants.{WrongMark, WrongVersion, WrongPortOrCount, BytesMissing}
 use Rattle.answers.specs.declared.Written.{Written}
 use Rattle.uplink.specs.declared.Received.{Received}
 use Rattle.uplink.specs.declared.Received.the-variants.{Packet, Refused}
@@ -18,6 +19,7 @@ abbrev pub mark : List ℕ
 mark = 83 ∷ 66 ∷ 82 ∷ []
 
 -- version 00 01 for the ports 1 to 3: which version carries which port is said here alone. 0 is no version.
+-- The table of ports stands above this crate; that each port which a version carries has a row there is shown in `listing_whole`.
 unfoldable pub versionOf : ℕ → ℕ
 versionOf port = cond (leb 1 port && leb port 3) 1 0
 
@@ -42,10 +44,6 @@ lead version port count = mark ++ (version / 256 ∷ version % 256 ∷ port ∷ 
 -- then that many line bytes.
 abbrev pub packet : ℕ → List ℕ → List ℕ
 packet port piece = lead (versionOf port) port (length piece) ++ piece
-
--- A test: where it holds, what follows decides; else this is the answer.
-abbrev pub need : {A : Type 0} → Bool → A → A → A
-need test answered following = cond test following answered
 
 -- What stands in a head
 unfoldable pub marked : List ℕ → Bool
@@ -87,13 +85,12 @@ IsRead s r = told r ≡ packetAt s
 abbrev pub takes : ℕ → ℕ → Bool
 takes port count = known (versionOf port) && counted count
 
--- The packet writer tests 12, then 9 (room below the exact written length);
--- with 0 it answers the length. What it tells, and what then stands in the lent buffer:
+-- The packet writer tests 12, then 9 (room below the exact written length), as every writer does: nothing is too long once 12 has not been given.
+-- With 0 it answers the length. What it tells, and what then stands in the lent buffer:
 unfoldable pub written : ℕ → List ℕ → List ℕ → Answer × List ℕ
 written port piece lent =
     need (takes port (length piece)) (refused 1 WrongPortOrCount, lent)
-    (need (leb (leadLength + length piece) (length lent)) (refused 1 NoRoom, lent)
-    (answer 0 ((leadLength + length piece) ∷ []), packet port piece ++ drop (leadLength + length piece) lent))
+    (writing false (packet port piece) lent)
 
 -- what `write` promises of its arguments, its result and the later content of the lent buffer
 abbrev pub IsWritten : ℕ → List ℕ → List ℕ → Written → List ℕ → Type 0

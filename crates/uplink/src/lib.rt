@@ -97,7 +97,7 @@ fn put_lead(version: u16, port: u8, count: u8, lent: &mut [u8])
     lent[6] = count;
 }
 
-// Writes the packet that carries `line` for `port` at the front of `lent`. Nothing is stored before every test has held.
+// Writes the packet that carries `piece` for `port` at the front of `lent`. Nothing is stored before every test has held.
 pub fn write(port: u8, piece: &[u8], lent: &mut [u8]) -> Written
     ensures { λ w. ⌜ IsWritten port (now (piece .entry)) (now (lent .entry)) w (now (lent .exit)) ⌝ }
 {
