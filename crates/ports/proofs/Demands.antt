@@ -10,6 +10,8 @@ use lib.ListN.{length}
 use lib.Dec.{ltb}
 use native.Mathlib.Omega.{arith}
 use Rattle.numbers.proofs.Alike.{zero-is-one}
+use Rattle.answers.specs.declared.Refusal.{Refusal}
+use Rattle.answers.proofs.NumbersHaveCases.{damages}
 use Rattle.stream.specs.Event.{Event, message, refuses, outcome}
 use Rattle.stream.specs.Pieces.{Called, scan}
 use Rattle.stream.specs.Call.{Seen, lentLeast, refused, answered}
@@ -20,6 +22,8 @@ use Rattle.ports.specs.Ports.{Seat, rowOf, seatAt, number, stepped, Step
 use Rattle.ports.specs.Demands.{Apart, PortCall, AllowedOn, OwnCalls, ends, another, its, EachAlone, Kept, WrongPort}
 use Rattle.ports.specs.declared.Ports.{Ports}
 use Rattle.ports.specs.declared.Step.{Step}
+use Rattle.ports.specs.declared.Answer.{Answer}
+use Rattle.ports.specs.declared.Answer.the-variants.{Done, ComLynx, Eversolar, Fronius, Damaged, Refused}
 use Rattle.ports.proofs.TableLaws.{some-one, same-seat, no-none, within, outside}
 use Rattle.ports.proofs.EveryRow.{factsOf}
 
@@ -34,7 +38,16 @@ not-12 true true s c h = let z : _≡_ {A = ℕ} 9 12 = cc in omega arith
 not-12 true false s c h = no-refusal (c .event) 12 h
 not-12 false u s c h = let z : _≡_ {A = ℕ} 18 12 = cc in omega arith
 
--- ---- on any line
+-- only a refusal has the number 12
+refused-12 : (a : Answer) → number a ≡ 12 → (why : Refusal) × (a ≡ Refused why)
+refused-12 Done h = absurd (omega arith)
+refused-12 (ComLynx m) h = absurd (omega arith)
+refused-12 (Eversolar m) h = absurd (omega arith)
+refused-12 (Fronius m) h = absurd (omega arith)
+refused-12 (Damaged what) h = absurd (omega (arith, damages .within what .1))
+refused-12 (Refused why) h = (why, refl)
+
+-- ---- on any port of the table
 
 module _ (seat : Seat) where
   abbrev F : Family
@@ -43,11 +56,10 @@ module _ (seat : Seat) where
   abbrev facts : Facts F
   facts = factsOf seat .facts
 
-  as-kept : (ports : Ports) (piece lent later : List ℕ) (r : Step) → StepsOn (some seat) ports piece lent r later
-      → 8 ≤ number (r .answer) → (r .ports ≡ ports) × (r .used ≡ 0) × (later ≡ lent)
-  as-kept ports piece lent later r (s, step, e) h =
-      let high : 8 ≤ number (rowOf seat .answer s) = subst (λ (v : Step). 8 ≤ number (v .answer)) e h in
-      let tells = factsOf seat .refusal s later high in
+  as-kept : (ports : Ports) (piece lent later : List ℕ) (r : Step) (why : Refusal) → StepsOn (some seat) ports piece lent r later
+      → r .answer ≡ Refused why → (r .ports ≡ ports) × (r .used ≡ 0) × (later ≡ lent)
+  as-kept ports piece lent later r why (s, step, e) h =
+      let tells = factsOf seat .refusal s later why (ap (λ (v : Step). v .answer) (sym e) ∙ h) in
       let k = Stream.kept F facts .2 (rowOf seat .get ports) piece lent later s _ step tells in
       let same : rowOf seat .reader s ≡ rowOf seat .get ports = sym (factsOf seat .reader s later) ∙ k .0 in (
         ap (λ (v : Step). v .ports) e ∙ ap (rowOf seat .put ports) same ∙ factsOf seat .puts-own ports,
@@ -59,11 +71,12 @@ module _ (seat : Seat) where
   as-not-12 ports piece lent later r (s, step, e) h =
       let at = rowOf seat .get ports in
       let own : number (rowOf seat .answer s) ≡ 12 = ap (λ (v : Step). number (v .answer)) (sym e) ∙ h in
-      let tells = factsOf seat .refusal s later (omega arith) ∙ ap refuses own in
+      let refusal = refused-12 (rowOf seat .answer s) own in
+      let tells = factsOf seat .refusal s later (refusal .0) (refusal .1) ∙ ap refuses (sym (ap number (refusal .1)) ∙ own) in
       not-12 (facts .inRange at) (ltb (length lent) lentLeast) at (scan (facts .next) at piece)
       (sym (ap (λ (v : Seen (F .State) (F .Message)). v .told) (facts .steps at piece lent later s step)) ∙ tells)
 
-  -- a call on another line, or on none
+  -- a call on another port, or on none
   on-other : (on : Option Seat) (ports : Ports) (piece lent later : List ℕ) (r : Step) → StepsOn on ports piece lent r later
       → (on ≡ some seat → ⊥) → rowOf seat .get (r .ports) ≡ rowOf seat .get ports
   on-other none ports piece lent later r (e, same) n = ap (λ (v : Step). rowOf seat .get (v .ports)) e
@@ -74,7 +87,7 @@ module _ (seat : Seat) where
   abbrev Found : Ports → List PortCall → Type 0
   Found ports cs = (owns : List (Call (F .Result))) × OwnCalls seat cs owns × Allowed F (rowOf seat .get ports) owns
 
-  -- one call more, on this line or on another
+  -- one call more, on this port or on another
   one-more : (ports : Ports) (c : PortCall) (cs : List PortCall) → AllowedOn ports (c ∷ cs)
       → (seatAt (c .port) ≡ some seat) ⊎ (seatAt (c .port) ≡ some seat → ⊥) → Found (c .call .result .ports) cs → Found ports (c ∷ cs)
   one-more ports c cs al (inl e) (owns, own, allowed) =
@@ -94,7 +107,7 @@ module _ (seat : Seat) where
       let left = on-other (seatAt (c .port)) ports (k .piece) (k .lent) (k .later) (k .result) (al .1) n in
       (owns, another n own, subst (λ (v : F .State). Allowed F v owns) left allowed)
 
-  -- a port has this line, or it has not
+  -- a port has this row, or it has not
   is-it : (on : Option Seat) → (on ≡ some seat) ⊎ (on ≡ some seat → ⊥)
   is-it none = inr (λ e. no-none seat (sym e))
   is-it (some other) = go (same-seat other seat)
@@ -115,9 +128,9 @@ apart seat ports port = on-other seat (seatAt port) ports
 pub each-alone : EachAlone
 each-alone = alone
 
-on-kept : (on : Option Seat) (ports : Ports) (piece lent later : List ℕ) (r : Step) → StepsOn on ports piece lent r later
-    → 8 ≤ number (r .answer) → (r .ports ≡ ports) × (r .used ≡ 0) × (later ≡ lent)
-on-kept none = λ ports piece lent later r s h. (ap (λ (v : Step). v .ports) (s .0), ap (λ (v : Step). v .used) (s .0), s .1)
+on-kept : (on : Option Seat) (ports : Ports) (piece lent later : List ℕ) (r : Step) (why : Refusal) → StepsOn on ports piece lent r later
+    → r .answer ≡ Refused why → (r .ports ≡ ports) × (r .used ≡ 0) × (later ≡ lent)
+on-kept none = λ ports piece lent later r why s h. (ap (λ (v : Step). v .ports) (s .0), ap (λ (v : Step). v .used) (s .0), s .1)
 on-kept (some seat) = as-kept seat
 
 pub kept : Kept

@@ -1,4 +1,4 @@
--- THE ROWS OF THE TABLE: what is shown of each line, once, and of all of them together. Everything else goes by these, for every line alike.
+-- THE ROWS OF THE TABLE: what is shown of each row, once, and of all of them together. Everything else goes by these, for every row alike.
 -- Assumes nothing.
 use Prim.Native.Nat.{ℕ, zero, suc, _≤_}
 use mathlib.Core.Path.{_≡_, refl, ap, _∙_}
@@ -7,7 +7,9 @@ use mathlib.Core.Option.{some}
 use mathlib.Core.List.{List}
 use lib.Dec.{eqb}
 use native.Mathlib.Omega.{arith}
-use Rattle.answers.proofs.NumbersHaveCases.{damages}
+use Rattle.numbers.proofs.Alike.{zero-is-one}
+use Rattle.answers.specs.Refusal.{number as refusalNumber}
+use Rattle.answers.specs.declared.Refusal.{Refusal}
 use Rattle.stream.specs.Event.{refuses}
 use Rattle.stream.specs.Call.{retold}
 use Rattle.stream.specs.Family.{Family}
@@ -33,21 +35,22 @@ use Rattle.fronius.specs.declared.reader.Answer as FroniusAnswer
 use Rattle.fronius.specs.declared.reader.Answer.the-variants as OfFronius
 use Rattle.fronius.proofs.FamilyFacts as FroniusFacts
 use Rattle.fronius.proofs.One as FroniusOne
-use Rattle.ports.specs.Ports.{Seat, comlynxSeat, eversolarSeat, froniusSeat, comlynxAnswer, eversolarAnswer, froniusAnswer, number, seats, portMost, sumOver, rowOf, seatAt}
+use Rattle.ports.specs.Ports.{Seat, comlynxSeat, eversolarSeat, froniusSeat, comlynxAnswer, eversolarAnswer, froniusAnswer, seats, portMost, sumOver, rowOf, seatAt}
 use Rattle.ports.specs.declared.Ports.{Ports}
+use Rattle.ports.specs.declared.Answer.the-variants.{Refused}
 
--- ---- every line
+-- ---- every row
 
--- what holds of each line holds of every line
+-- what holds of each row holds of every row
 pub each-seat : (P : Seat → Type 0) → P comlynxSeat → P eversolarSeat → P froniusSeat → (seat : Seat) → P seat
 each-seat P a b c comlynxSeat = a
 each-seat P a b c eversolarSeat = b
 each-seat P a b c froniusSeat = c
 
--- ---- what is shown of a line
+-- ---- what is shown of a row
 
 pub record RowFacts (seat : Seat) : Type 1 where
-  -- its port has it, is one of the ports, and it is among all lines once
+  -- its port has it, is one of the ports, and it is among all rows once
   pub own-seat : seatAt (rowOf seat .port) ≡ some seat
   pub span : (1 ≤ rowOf seat .port) × (rowOf seat .port ≤ portMost)
   pub once : sumOver seats (λ other. cond (eqb (rowOf seat .port) (rowOf other .port)) 1 0) ≡ 1
@@ -65,17 +68,17 @@ pub record RowFacts (seat : Seat) : Type 1 where
   -- what its result holds is what a host sees
   pub reader : (r : rowOf seat .family .Result) (later : List ℕ) → rowOf seat .family .seen r later .state ≡ rowOf seat .reader r
   pub used : (r : rowOf seat .family .Result) (later : List ℕ) → rowOf seat .family .seen r later .used ≡ rowOf seat .used r
-  pub refusal : (r : rowOf seat .family .Result) (later : List ℕ) → 8 ≤ number (rowOf seat .answer r)
-      → rowOf seat .family .seen r later .told ≡ refuses (number (rowOf seat .answer r))
+  pub refusal : (r : rowOf seat .family .Result) (later : List ℕ) (why : Refusal) → rowOf seat .answer r ≡ Refused why
+      → rowOf seat .family .seen r later .told ≡ refuses (refusalNumber why)
 
 -- ---- ComLynx
 
-comlynx-refusal : (a : ComlynxAnswer.Answer) (later : List ℕ) → 8 ≤ number (comlynxAnswer a)
-    → retold (λ h. ComlynxReader.join h later) (ComlynxReader.told a) ≡ refuses (number (comlynxAnswer a))
-comlynx-refusal OfComlynx.Done later h = absurd (omega arith)
-comlynx-refusal (OfComlynx.Message m) later h = absurd (omega arith)
-comlynx-refusal (OfComlynx.Damaged what) later h = absurd (omega (arith, damages .within what .1))
-comlynx-refusal (OfComlynx.Refused why) later h = refl
+comlynx-refusal : (a : ComlynxAnswer.Answer) (later : List ℕ) (why : Refusal) → comlynxAnswer a ≡ Refused why
+    → retold (λ h. ComlynxReader.join h later) (ComlynxReader.told a) ≡ refuses (refusalNumber why)
+comlynx-refusal OfComlynx.Done later why e = zero-is-one cc
+comlynx-refusal (OfComlynx.Message m) later why e = zero-is-one cc
+comlynx-refusal (OfComlynx.Damaged what) later why e = zero-is-one cc
+comlynx-refusal (OfComlynx.Refused reason) later why e = let same : reason ≡ why = cc in ap (λ (w : Refusal). refuses (refusalNumber w)) same
 
 comlynx-row : RowFacts comlynxSeat
 unfolding seatAt ComlynxMachine.inRange
@@ -98,12 +101,12 @@ comlynx-row = record {
 
 -- ---- Eversolar
 
-eversolar-refusal : (a : EversolarAnswer.Answer) (later : List ℕ) → 8 ≤ number (eversolarAnswer a)
-    → retold (λ h. EversolarReader.join h later) (EversolarReader.told a) ≡ refuses (number (eversolarAnswer a))
-eversolar-refusal OfEversolar.Done later h = absurd (omega arith)
-eversolar-refusal (OfEversolar.Message m) later h = absurd (omega arith)
-eversolar-refusal (OfEversolar.Damaged what) later h = absurd (omega (arith, damages .within what .1))
-eversolar-refusal (OfEversolar.Refused why) later h = refl
+eversolar-refusal : (a : EversolarAnswer.Answer) (later : List ℕ) (why : Refusal) → eversolarAnswer a ≡ Refused why
+    → retold (λ h. EversolarReader.join h later) (EversolarReader.told a) ≡ refuses (refusalNumber why)
+eversolar-refusal OfEversolar.Done later why e = zero-is-one cc
+eversolar-refusal (OfEversolar.Message m) later why e = zero-is-one cc
+eversolar-refusal (OfEversolar.Damaged what) later why e = zero-is-one cc
+eversolar-refusal (OfEversolar.Refused reason) later why e = let same : reason ≡ why = cc in ap (λ (w : Refusal). refuses (refusalNumber w)) same
 
 eversolar-row : RowFacts eversolarSeat
 unfolding seatAt EversolarMachine.inRange
@@ -126,12 +129,12 @@ eversolar-row = record {
 
 -- ---- Fronius
 
-fronius-refusal : (a : FroniusAnswer.Answer) (later : List ℕ) → 8 ≤ number (froniusAnswer a)
-    → retold (λ h. FroniusReader.join h later) (FroniusReader.told a) ≡ refuses (number (froniusAnswer a))
-fronius-refusal OfFronius.Done later h = absurd (omega arith)
-fronius-refusal (OfFronius.Message m) later h = absurd (omega arith)
-fronius-refusal (OfFronius.Damaged what) later h = absurd (omega (arith, damages .within what .1))
-fronius-refusal (OfFronius.Refused why) later h = refl
+fronius-refusal : (a : FroniusAnswer.Answer) (later : List ℕ) (why : Refusal) → froniusAnswer a ≡ Refused why
+    → retold (λ h. FroniusReader.join h later) (FroniusReader.told a) ≡ refuses (refusalNumber why)
+fronius-refusal OfFronius.Done later why e = zero-is-one cc
+fronius-refusal (OfFronius.Message m) later why e = zero-is-one cc
+fronius-refusal (OfFronius.Damaged what) later why e = zero-is-one cc
+fronius-refusal (OfFronius.Refused reason) later why e = let same : reason ≡ why = cc in ap (λ (w : Refusal). refuses (refusalNumber w)) same
 
 fronius-row : RowFacts froniusSeat
 unfolding seatAt FroniusMachine.inRange
@@ -170,7 +173,7 @@ together {a} {b} {c} {d} {e} {f} x y z =
 pub whole : (a b : Ports) → ((seat : Seat) → rowOf seat .get a ≡ rowOf seat .get b) → a ≡ b
 whole a b same = together (same comlynxSeat) (same eversolarSeat) (same froniusSeat)
 
--- a port that has a line
+-- a port that has a row
 abbrev pub OnSeat : ℕ → Type 0
 OnSeat port = (seat : Seat) × (rowOf seat .port ≡ port)
 

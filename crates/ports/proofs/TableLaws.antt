@@ -19,7 +19,7 @@ use Rattle.ports.proofs.EveryRow.{factsOf, ported}
 pub seat-at : (seat : Seat) {port : ℕ} → port ≡ rowOf seat .port → seatAt port ≡ some seat
 seat-at seat e = ap seatAt e ∙ factsOf seat .own-seat
 
--- two lines are one, or they are not
+-- two rows are one, or they are not
 pub some-one : {a b : Seat} → some a ≡ some b → a ≡ b
 some-one e = cc
 
@@ -58,7 +58,7 @@ pub answered : (ports : Ports) (used : ℕ) {a b : Answer} → a ≡ b
     → _≡_ {A = Step} (record { ports = ports; answer = a; used = used }) (record { ports = ports; answer = b; used = used })
 answered ports used e = ap {B = Step} (λ (v : Answer). record { ports = ports; answer = v; used = used }) e
 
--- ---- sums over lines
+-- ---- sums over rows
 
 pub sums-alike : (ls : List Seat) (f g : Seat → ℕ) → ((seat : Seat) → f seat ≡ g seat) → sumOver ls f ≡ sumOver ls g
 sums-alike [] f g same = refl

@@ -6,11 +6,13 @@ use mathlib.Core.Logic.{_↔_}
 use mathlib.Core.Option.{some}
 use mathlib.Core.List.{List, [], _∷_}
 use lib.ListN.{length}
+use Rattle.answers.specs.declared.Refusal.{Refusal}
 use Rattle.stream.specs.Call.{lentLeast}
 use Rattle.stream.specs.Family.{Call, Allowed}
 use Rattle.ports.specs.Ports.{Seat, portMost, rowOf, seatAt, number, stepped, IsStep}
 use Rattle.ports.specs.declared.Ports.{Ports}
 use Rattle.ports.specs.declared.Step.{Step}
+use Rattle.ports.specs.declared.Answer.the-variants.{Refused}
 
 -- ---- a call on one port leaves the readers of the others as they were
 
@@ -26,7 +28,7 @@ pub record PortCall : Type 0 where
   pub port : ℕ
   pub call : Call Step
 
--- CALLS ONE AFTER ANOTHER, each with the readers that the one before it handed back, each on any port, another than 1 to 3 too, with any
+-- CALLS ONE AFTER ANOTHER, each with the readers that the one before it handed back, each on any port, one that no reader has too, with any
 -- piece and any buffer of at least 255 bytes: every sequence of them that the promise of `Ports::step` allows
 abbrev pub AllowedOn : Ports → List PortCall → Type 0
 AllowedOn ports [] = Unit {0}
@@ -35,14 +37,14 @@ AllowedOn ports (c ∷ cs) =
     × IsStep ports (c .port) (c .call .piece) (c .call .lent) (c .call .result) (c .call .later)
     × AllowedOn (c .call .result .ports) cs
 
--- a call on the ports, and a call of a line's reader: the same piece and buffers, and the result of the one is that of the other, put in its place
+-- a call on the ports, and a call of a port's reader: the same piece and buffers, and the result of the one is that of the other, put in its place
 pub record SameCall (seat : Seat) (c : Call Step) (own : Call (rowOf seat .family .Result)) : Type 0 where
   pub piece : c .piece ≡ own .piece
   pub lent : c .lent ≡ own .lent
   pub result : c .result ≡ stepped seat (c .result .ports) (own .result)
   pub later : c .later ≡ own .later
 
--- of calls on any ports those on a line, in order, as calls of its reader
+-- of calls on any ports those on one, in order, as calls of its reader
 pub data OwnCalls (seat : Seat) : List PortCall → List (Call (rowOf seat .family .Result)) → Type 0 where
   ends : OwnCalls seat [] []
   another : {c : PortCall} {cs : List PortCall} {owns : List (Call (rowOf seat .family .Result))}
@@ -58,13 +60,13 @@ EachAlone =
 
 -- ---- refusals
 
--- after one, 8 and above, the readers are unchanged, nothing is used, and the lent buffer holds what it held
+-- after one the readers are unchanged, nothing is used, and the lent buffer holds what it held
 abbrev pub Kept : Type 0
 Kept =
-    (ports : Ports) (port : ℕ) (piece lent later : List ℕ) (r : Step) → IsStep ports port piece lent r later
-    → 8 ≤ number (r .answer) → (r .ports ≡ ports) × (r .used ≡ 0) × (later ≡ lent)
+    (ports : Ports) (port : ℕ) (piece lent later : List ℕ) (r : Step) (why : Refusal) → IsStep ports port piece lent r later
+    → r .answer ≡ Refused why → (r .ports ≡ ports) × (r .used ≡ 0) × (later ≡ lent)
 
--- 12 is given exactly for another port than 1 to 3
+-- 12 is given exactly for another port than those of the table
 abbrev pub WrongPort : Type 0
 WrongPort =
     (ports : Ports) (port : ℕ) (piece lent later : List ℕ) (r : Step) → IsStep ports port piece lent r later

@@ -74,11 +74,11 @@ pub data Seat : Type 0 where
 abbrev pub seats : List Seat
 seats = comlynxSeat ∷ eversolarSeat ∷ froniusSeat ∷ []
 
--- the ports are 1 to 3
+-- the ports are 1 to this
 abbrev pub portMost : ℕ
 portMost = 3
 
--- a number for each line, summed
+-- a number for each row, summed
 abbrev pub sumOver : List Seat → (Seat → ℕ) → ℕ
 sumOver [] n = 0
 sumOver (l ∷ ls) n = n l + sumOver ls n
@@ -137,7 +137,7 @@ rowOf froniusSeat = record {
   used = λ r. r .used;
 }
 
--- the line of a port, if it has one
+-- the row of a port, if it has one
 abbrev pub seatAmong : List Seat → ℕ → Option Seat
 seatAmong [] port = none
 seatAmong (l ∷ ls) port = cond (eqb port (rowOf l .port)) (some l) (seatAmong ls port)
@@ -151,7 +151,7 @@ seatAt port = seatAmong seats port
 abbrev pub IsFresh : Ports → Type 0
 IsFresh r = (seat : Seat) → rowOf seat .get r ≡ rowOf seat .family .fresh
 
--- the result of a call on a line: that of its reader's call, with the reader that it handed back put in its place
+-- the result of a call on a port: that of its reader's call, with the reader that it handed back put in its place
 abbrev pub stepped : (seat : Seat) → Ports → rowOf seat .family .Result → Step
 stepped seat ports s = record { ports = rowOf seat .put ports (rowOf seat .reader s); answer = rowOf seat .answer s; used = rowOf seat .used s }
 
@@ -159,7 +159,7 @@ stepped seat ports s = record { ports = rowOf seat .put ports (rowOf seat .reade
 abbrev pub refused : Ports → Step
 refused ports = record { ports = ports; answer = Refused WrongPortOrCount; used = 0 }
 
--- a call on a line: there is a call of its reader that its family's promise allows, and this is the result of that; on no line: refused
+-- a call on a port: there is a call of its reader that its family's promise allows, and this is the result of that; on another than these: refused
 abbrev pub StepsOn : Option Seat → Ports → List ℕ → List ℕ → Step → List ℕ → Type 0
 StepsOn none ports piece lent r later = (r ≡ refused ports) × (later ≡ lent)
 StepsOn (some seat) ports piece lent r later =

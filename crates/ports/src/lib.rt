@@ -1,15 +1,19 @@
 // The readers of all ports side by side, one a port. A call goes to the reader of its port and leaves the others as they are.
+//
+// `Ports::step` is for hosts that hold all readers by value and are handed a port and a piece, as `test_published` and `test_probe` do here.
+// Such a call copies all three readers, some 700 bytes. So `listing`, which calls often, chooses the port itself: it takes the reader out once
+// a packet, calls that reader alone, and puts it back.
 use answers::Damage;
 use answers::Refusal;
 ghost use mathlib.Core.Path.{_≡_};
 ghost use Rattle.ports.specs.Ports.{comlynxAnswer, eversolarAnswer, froniusAnswer, IsFresh, IsStep};
 
 // Which port has which family.
-const COMLYNX: u8 = 1;
+pub const COMLYNX: u8 = 1;
 
-const EVERSOLAR: u8 = 2;
+pub const EVERSOLAR: u8 = 2;
 
-const FRONIUS: u8 = 3;
+pub const FRONIUS: u8 = 3;
 
 // What the bytes read so far on each port have led to.
 pub struct Ports {
@@ -101,7 +105,7 @@ impl Ports {
             let answer = comlynx_answer(told);
             return Step {
                 ports: self,
-                answer: answer,
+                answer,
                 used: s.used,
             };
         }
@@ -113,7 +117,7 @@ impl Ports {
             let answer = eversolar_answer(told);
             return Step {
                 ports: self,
-                answer: answer,
+                answer,
                 used: s.used,
             };
         }
@@ -125,14 +129,14 @@ impl Ports {
             let answer = fronius_answer(told);
             return Step {
                 ports: self,
-                answer: answer,
+                answer,
                 used: s.used,
             };
         }
         let answer = Answer::Refused(Refusal::WrongPortOrCount);
         Step {
             ports: self,
-            answer: answer,
+            answer,
             used: 0,
         }
     }

@@ -1,4 +1,4 @@
--- `Ports::step`: each way is that of the port's line: the call was made, and its answer is the one that the family's comes to.
+-- `Ports::step`: each way is that of the port's row: the call was made, and its answer is the one that the family's comes to.
 -- Assumes nothing.
 use mathlib.Core.Path.{refl}
 use borrow.Author.Needs.{needs}
