@@ -11,7 +11,7 @@ use native.Mathlib.Nat.{le-refl, zero-add}
 use native.Mathlib.Omega.{arith}
 use borrow.Rule.Slice.PartMut.{putMid}
 use Rattle.numbers.proofs.Alike.{zero-is-one}
-use Rattle.answers.specs.Written.{Writes}
+use Rattle.answers.specs.Written.{lengthIn, Writes}
 use Rattle.answers.specs.declared.Written.{Written}
 use Rattle.stream.specs.Event.{Event, message, damage, Told, done, gives, refuses, outcome}
 use Rattle.stream.specs.Pieces.{Moved, Called, Ran, before, scan, calls}
@@ -26,7 +26,7 @@ use Rattle.listing_text.proofs.PutsJoin.{sets-append, put-front}
 use Rattle.listing_text.proofs.LineLengths.{line-written}
 use Rattle.listing.specs.Entries.{showEvent, Entry, entriesOn, linesOf, isMessage, isDamage, messagesIn, damagesIn}
 use Rattle.listing.specs.Steps.{roomLeast}
-use Rattle.listing.specs.Inside.{lengthIn, Put, Drains}
+use Rattle.listing.specs.Inside.{Put, Drains}
 use Rattle.listing.proofs.LinesInOrder.{lines-append, messages-append, damages-append}
 use Rattle.listing.proofs.LinesFit.{lineFor, perByte, heldMost, Weighs, scan-weighs}
 

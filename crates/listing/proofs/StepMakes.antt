@@ -9,7 +9,7 @@ use mathlib.Core.List.{List, [], _∷_, _++_, map, append-nil, append-assoc}
 use lib.ListN.{length, take, drop, length-append, length-drop, drop-of-length-le}
 use lib.Seq.{length-take-le, take-all, take-at, drop-at, drop-drop}
 use lib.Dec.{eqb, leb}
-use borrow.Author.Tests.{leb-true, le-leb, lt-ltb, le-ltb, eq-eqb, ne-eqb, not-true, not-false}
+use borrow.Author.Tests.{leb-true, le-leb, lt-leb, eq-eqb, ne-eqb, not-true, not-false}
 use borrow.Rule.Slice.PartMut.{putMid}
 use mir.Val.{Fits}
 use mir.Syntax.{w64}
@@ -17,7 +17,7 @@ use native.Mathlib.Nat.{le-refl}
 use native.Mathlib.Omega.{arith}
 use Rattle.answers.specs.Answer.{number}
 use Rattle.answers.specs.Refusal.{number as refusalNumber}
-use Rattle.answers.specs.Written.{Writes}
+use Rattle.answers.specs.Written.{lengthIn, Writes}
 use Rattle.answers.specs.declared.Refusal.{Refusal}
 use Rattle.answers.specs.declared.Refusal.the-variants.{NoRoom, BytesMissing, Spoilt, TooManyPackets}
 use Rattle.answers.specs.declared.Written.{Written}
@@ -36,33 +36,40 @@ use Rattle.listing_text.specs.Lines.{stopLine, endLine}
 use Rattle.listing_text.proofs.LineLengths.{line-written}
 use Rattle.listing.specs.Entries.{showEvent, lastLines}
 use Rattle.listing.specs.Steps.{Packet, packetIn, packetsMax}
-use Rattle.listing.specs.Steps.{Fed, fed, readableOn, readable, Made, refused, wantsMore, ends, takes, front, going, inRange, roomLeast, made, Sound}
-use Rattle.listing.specs.Inside.{Put, lengthIn, Drains}
-use Rattle.listing.specs.Making.{few, stopText, stopOf, listed, HandsBack, CanTake, packet, took, taking, noPacket, atEnd}
+use Rattle.listing.specs.Steps.{Fed, fed, readableOn, readable, Made, refused, wantsMore, ends, takes, taking, noPacket, atEnd, byPacket, going, inRange, roomLeast, made, Sound, listed, HandsBack}
+use Rattle.listing.specs.Inside.{Put, Drains, stopText, stopOf, took}
 use Rattle.listing.specs.declared.Listing.{Listing}
 use Rattle.listing.specs.declared.Listed.{Listed}
 
 -- ---- counts in range
 
-pub in-few : (l : Listing) → few (l .packets) (l .messages) (l .damages) ≡ inRange l
+pub in-counts : (l : Listing) → inRange l ≡ true → (l .packets ≤ packetsMax) × (l .messages ≤ pieceMax * l .packets) × (l .damages ≤ pieceMax * l .packets)
 unfolding inRange
-in-few l = refl
+in-counts l e =
+    let one = both (leb (l .packets) packetsMax) (leb (l .messages) (pieceMax * l .packets) && leb (l .damages) (pieceMax * l .packets)) e in
+    let two = both (leb (l .messages) (pieceMax * l .packets)) (leb (l .damages) (pieceMax * l .packets)) (one .1) in
+    (leb-true (l .packets) packetsMax (one .0), leb-true (l .messages) (pieceMax * l .packets) (two .0), leb-true (l .damages) (pieceMax * l .packets) (two .1))
 
-pub counts-few : (packets messages damages : ℕ) → few packets messages damages ≡ true → (packets ≤ packetsMax) × (messages ≤ pieceMax * packets) × (damages ≤ pieceMax * packets)
-counts-few packets messages damages e =
-    let one = both (leb packets packetsMax) (leb messages (pieceMax * packets) && leb damages (pieceMax * packets)) e in
-    let two = both (leb messages (pieceMax * packets)) (leb damages (pieceMax * packets)) (one .1) in
-    (leb-true packets packetsMax (one .0), leb-true messages (pieceMax * packets) (two .0), leb-true damages (pieceMax * packets) (two .1))
+counts-in : (l : Listing) → l .packets ≤ packetsMax → l .messages ≤ pieceMax * l .packets → l .damages ≤ pieceMax * l .packets → inRange l ≡ true
+unfolding inRange
+counts-in l p m d = rw (le-leb (l .packets) packetsMax p, le-leb (l .messages) (pieceMax * l .packets) m, le-leb (l .damages) (pieceMax * l .packets) d)
 
-few-counts : (packets messages damages : ℕ) → packets ≤ packetsMax → messages ≤ pieceMax * packets → damages ≤ pieceMax * packets → few packets messages damages ≡ true
-few-counts packets messages damages p m d =
-    rw (le-leb packets packetsMax p, le-leb messages (pieceMax * packets) m, le-leb damages (pieceMax * packets) d)
+-- a listing that can take a packet of so many line bytes, with so much room
+pub record CanTake (l : Listing) (piece room : ℕ) : Type 0 where
+  pub counts : inRange l ≡ true
+  pub packets : l .packets < packetsMax
+  pub some : 0 < piece
+  pub most : piece ≤ pieceMax
+  pub lent : roomLeast ≤ room
+
+abbrev pub packet : ℕ → List ℕ → Packet
+packet port piece = record { port = port; piece = piece }
 
 -- one packet more, and no count is beyond its type
 pub fits : (l : Listing) {piece room messages damages : ℕ} → CanTake l piece room → (messages ≤ pieceMax) × (damages ≤ pieceMax)
     → Fits w64 (l .messages + messages) × Fits w64 (l .damages + damages)
 fits l can d =
-    let before = counts-few (l .packets) (l .messages) (l .damages) (in-few l ∙ can .counts) in
+    let before = in-counts l (can .counts) in
     (omega (arith, before .1, d .0, can .packets), omega (arith, before .2, d .1, can .packets))
 
 -- ---- text
@@ -138,13 +145,13 @@ module _ (at : Seat) (l : Listing) (piece lent later : List ℕ) (reader : rowOf
       let is : takes l p fed-on ≡ taking l p = rw (factsOf at .own-seat, inside) in
       let x = d .reads inside in
       let told-so : r ≡ listed (takes l p fed-on) = e ∙ rw (x .0, x .1 .0, x .2, x .3) in
-      let before = counts-few (l .packets) (l .messages) (l .damages) (in-few l ∙ can .counts) in
+      let before = in-counts l (can .counts) in
       let after : Listing = record { ports = rowOf at .put (l .ports) reader; packets = l .packets + 1; messages = l .messages + messages; damages = l .damages + damages } in
-      let counts : few (l .packets + 1) (l .messages + messages) (l .damages + damages) ≡ true =
-      few-counts (l .packets + 1) (l .messages + messages) (l .damages + damages) (omega (arith, can .packets))
+      let counts : inRange after ≡ true =
+      counts-in after (omega (arith, can .packets))
       (omega (arith, before .1, d .few .0)) (omega (arith, before .2, d .few .1)) in
       let sound : Sound l → Sound after = λ s. record {
-        counts = sym (in-few after) ∙ counts;
+        counts = counts;
         readers = λ other. still-readable at other (l .ports) reader (x .4) (s .readers other);
       } in
       same-made l lent later r is (told-so, x .1 .1, λ s. subst Sound (sym (ap (λ (y : Listed). y .listing) e)) (sound s))
@@ -170,7 +177,7 @@ line-long s port count used w =
 -- ---- which of them a call is
 
 going-none : (l : Listing) (s : List ℕ) (ended : Bool) → length s ≡ 0 → atEnd l ended ≡ going l s ended
-unfolding going atEnd
+unfolding going
 going-none l [] ended h = refl
 going-none l (b ∷ bs) ended h = absurd (omega arith)
 
@@ -179,7 +186,7 @@ unfolding going stopOf
 going-full l [] ended h e = absurd (h refl)
 going-full l (b ∷ bs) ended h e = rw (eq-eqb (l .packets) packetsMax e)
 
-going-on : (l : Listing) (s : List ℕ) (ended : Bool) → (length s ≡ 0 → ⊥) → (l .packets ≡ packetsMax → ⊥) → front l s ended ≡ going l s ended
+going-on : (l : Listing) (s : List ℕ) (ended : Bool) → (length s ≡ 0 → ⊥) → (l .packets ≡ packetsMax → ⊥) → byPacket l s ended ≡ going l s ended
 unfolding going
 going-on l [] ended h e = absurd (h refl)
 going-on l (b ∷ bs) ended h e = rw (ne-eqb (l .packets) packetsMax e)
@@ -191,11 +198,11 @@ module _ (l : Listing) (s : List ℕ) (ended : Bool) (room : ℕ) where
 
   pub no-room : inRange l ≡ true → room < roomLeast → refused NoRoom l ≡ made l s ended room
   unfolding made
-  no-room e h = rw (e, lt-ltb room roomLeast h)
+  no-room e h = rw (e, lt-leb roomLeast room h)
 
   goes : inRange l ≡ true → roomLeast ≤ room → going l s ended ≡ made l s ended room
   unfolding made
-  goes e h = rw (e, le-ltb room roomLeast h)
+  goes e h = rw (e, le-leb roomLeast room h)
 
   pub no-input : inRange l ≡ true → roomLeast ≤ room → length s ≡ 0 → atEnd l ended ≡ made l s ended room
   no-input e h n = going-none l s ended n ∙ goes e h
@@ -205,18 +212,18 @@ module _ (l : Listing) (s : List ℕ) (ended : Bool) (room : ℕ) where
 
   module _ (e : inRange l ≡ true) (h : roomLeast ≤ room) (n : length s ≡ 0 → ⊥) (p : l .packets ≡ packetsMax → ⊥) where
     pub one-packet : (port count used : ℕ) → IsRead s (Received.Packet port count used) → taking l (packet port (take (used - leadLength) (drop leadLength s))) ≡ made l s ended room
-    unfolding taking front
+    unfolding byPacket
     one-packet port count used q =
         let t = tested s port count used (sym q) in
         let zero : number (packetAt s) ≡ 0 = ap number (sym q) in
         let long : used - leadLength ≡ countIn s = omega (arith, t .uses, t .count-there) in
         let is : packet port (take (used - leadLength) (drop leadLength s)) ≡ packetIn s = rw (long, ← t .port-there) in
-        let front-is : taking l (packetIn s) ≡ front l s ended = rw zero in
-        ap (taking l) is ∙ front-is ∙ going-on l s ended n p ∙ goes e h
+        let by : taking l (packetIn s) ≡ byPacket l s ended = rw zero in
+        ap (taking l) is ∙ by ∙ going-on l s ended n p ∙ goes e h
 
     pub refused-packet : (why : Refusal) → IsRead s (Received.Refused why) → noPacket l (refusalNumber why) ended ≡ made l s ended room
-    unfolding noPacket front
+    unfolding byPacket
     refused-packet why q =
         let is : number (packetAt s) ≡ refusalNumber why = ap number (sym q) in
-        let front-is : noPacket l (refusalNumber why) ended ≡ front l s ended = rw (is, ne-eqb (refusalNumber why) 0 (λ z. omega (arith, refusal-above why))) in
-        front-is ∙ going-on l s ended n p ∙ goes e h
+        let by : noPacket l (refusalNumber why) ended ≡ byPacket l s ended = rw (is, ne-eqb (refusalNumber why) 0 (λ z. omega (arith, refusal-above why))) in
+        by ∙ going-on l s ended n p ∙ goes e h

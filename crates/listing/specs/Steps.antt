@@ -5,8 +5,8 @@ use mathlib.Core.Bool.{Bool, true, false, cond, _&&_, not}
 use mathlib.Core.Option.{Option, none, some}
 use mathlib.Core.List.{List, [], _∷_, _++_, map}
 use lib.ListN.{length, take, drop}
-use lib.Dec.{eqb, ltb, leb}
-use Rattle.answers.specs.Answer.{number}
+use lib.Dec.{eqb, leb}
+use Rattle.answers.specs.Answer.{number, need}
 use Rattle.answers.specs.Refusal as Refusal
 use Rattle.answers.specs.declared.Refusal.{Refusal}
 use Rattle.answers.specs.declared.Refusal.the-variants.{NoRoom, BytesMissing, Spoilt, TooManyPackets}
@@ -36,7 +36,7 @@ pub record Packet : Type 0 where
   pub port : ℕ
   pub piece : List ℕ
 
--- the packet at the front of s
+-- the packet that s begins with
 abbrev pub packetIn : List ℕ → Packet
 packetIn s = record { port = portIn s; piece = take (countIn s) (drop leadLength s) }
 
@@ -96,17 +96,26 @@ takes l p f =
       text = linesOf es;
     }
 
--- the packet at the front of the input. Bytes are missing only once the input has ended: else more is wanted.
--- Nothing of a refused packet is read
-unfoldable pub front : Listing → List ℕ → (ended : Bool) → Made
-front l s ended =
-    let n = number (packetAt s) in
-    cond (eqb n 0) (cond (readable (portIn s) (l .ports)) (takes l (packetIn s) (fed (packetIn s) (l .ports))) (refused Spoilt l))
-    (cond (eqb n (Refusal.number BytesMissing) && not ended) (wantsMore l) (ends l (some n)))
+-- a packet that is accepted is taken, if the reader of its port is in range
+unfoldable pub taking : Listing → Packet → Made
+taking l p = need (readable (p .port) (l .ports)) (refused Spoilt l) (takes l p (fed p (l .ports)))
 
+-- Of a packet that is refused with n nothing is read. Bytes are missing only once the input has ended: else more is wanted
+unfoldable pub noPacket : Listing → (n : ℕ) → (ended : Bool) → Made
+noPacket l n ended = cond (eqb n (Refusal.number BytesMissing) && not ended) (wantsMore l) (ends l (some n))
+
+-- where nothing of the input is at hand
+unfoldable pub atEnd : Listing → (ended : Bool) → Made
+atEnd l ended = need ended (wantsMore l) (ends l none)
+
+-- by the packet that the input begins with
+unfoldable pub byPacket : Listing → List ℕ → (ended : Bool) → Made
+byPacket l s ended = let n = number (packetAt s) in cond (eqb n 0) (taking l (packetIn s)) (noPacket l n ended)
+
+-- Once the last packet is taken, more input, whatever it is, stops
 unfoldable pub going : Listing → List ℕ → (ended : Bool) → Made
-going l [] ended = cond ended (ends l none) (wantsMore l)
-going l (b ∷ bs) ended = cond (eqb (l .packets) packetsMax) (ends l (some (Refusal.number TooManyPackets))) (front l (b ∷ bs) ended)
+going l [] ended = atEnd l ended
+going l (b ∷ bs) ended = cond (eqb (l .packets) packetsMax) (ends l (some (Refusal.number TooManyPackets))) (byPacket l (b ∷ bs) ended)
 
 -- a listing that may be: no more packets than are taken, and no more messages or damages than they have line bytes
 unfoldable pub inRange : Listing → Bool
@@ -118,18 +127,24 @@ roomLeast = 8192
 
 -- Tests: 18, then 9, then the input
 unfoldable pub made : Listing → List ℕ → (ended : Bool) → (room : ℕ) → Made
-made l input ended room = cond (inRange l) (cond (ltb room roomLeast) (refused NoRoom l) (going l input ended)) (refused Spoilt l)
+made l input ended room =
+    need (inRange l) (refused Spoilt l)
+    (need (leb roomLeast room) (refused NoRoom l)
+    (going l input ended))
 
 -- a listing that is never refused with 18
 pub record Sound (l : Listing) : Type 0 where
   pub counts : inRange l ≡ true
   pub readers : (at : Seat) → readableOn (some at) (l .ports) ≡ true
 
--- WHAT `Listing::step` PROMISES, of listing, input, whether the input has ended, the lent buffer, the result and the buffer afterwards;
--- and a sound listing stays sound
+-- what is handed back of what is made
+abbrev pub listed : Made → Listed
+listed m = record { listing = m .listing; heard = m .heard; used = m .used; wrote = length (m .text) }
+
+-- a call on l that makes m, of the lent buffer, the result and the buffer afterwards; and a sound listing stays sound
+abbrev pub HandsBack : Listing → Made → (lent : List ℕ) → Listed → (later : List ℕ) → Type 0
+HandsBack l m lent r later = (r ≡ listed m) × (later ≡ m .text ++ drop (length (m .text)) lent) × (Sound l → Sound (r .listing))
+
+-- WHAT `Listing::step` PROMISES, of listing, input, whether the input has ended, the lent buffer, the result and the buffer afterwards
 abbrev pub IsStep : Listing → List ℕ → Bool → List ℕ → Listed → List ℕ → Type 0
-IsStep l input ended lent r later =
-    let m = made l input ended (length lent) in
-    (r ≡ record { listing = m .listing; heard = m .heard; used = m .used; wrote = length (m .text) })
-    × (later ≡ m .text ++ drop (length (m .text)) lent)
-    × (Sound l → Sound (r .listing))
+IsStep l input ended lent = HandsBack l (made l input ended (length lent)) lent

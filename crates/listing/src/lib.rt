@@ -16,10 +16,9 @@ ghost use Prim.Native.Nat.{_≤_};
 ghost use lib.ListN.{length};
 ghost use Rattle.answers.specs.Refusal.{number as refusalNumber};
 ghost use Rattle.listing_text.specs.Lines.{endLine};
-ghost use Rattle.listing.specs.Steps.{roomLeast, refused, wantsMore, ends, IsFresh, IsStep};
-ghost use Rattle.listing.specs.Inside.{Put};
+ghost use Rattle.listing.specs.Steps.{roomLeast, refused, wantsMore, ends, noPacket, atEnd, listed, HandsBack, IsFresh, IsStep};
+ghost use Rattle.listing.specs.Inside.{Put, InRange, stopMost, stopText, stopOf, endMost, finish, took};
 ghost use Rattle.listing.specs.Entries.{lastLines};
-ghost use Rattle.listing.specs.Making.{few, stopMost, stopText, stopOf, endMost, listed, HandsBack, finish, took, noPacket, atEnd};
 
 // How many packets are taken.
 pub const PACKETS_MAX: usize = 65536;
@@ -69,7 +68,7 @@ const NO_STOP: u8 = 0;
 
 // Whether the counts may be: with so many packets at most, the product and all sums below stay small.
 fn in_range(packets: usize, messages: u64, damages: u64) -> bool
-    ensures { λ r. ⌜ r ≡ few packets messages damages ⌝ }
+    ensures { λ r. ⌜ InRange packets messages damages r ⌝ }
 {
     if PACKETS_MAX < packets {
         return false;

@@ -5,13 +5,14 @@ ghost use Prim.Native.Nat.{_≤_};
 ghost use mathlib.Core.Path.{_≡_};
 ghost use lib.ListN.{length};
 ghost use Rattle.answers.specs.Damage as DamageNumber;
+ghost use Rattle.answers.specs.Written.{lengthIn};
 ghost use Rattle.stream.specs.Event.{message, damage};
 ghost use Rattle.stream.specs.Call.{lentLeast};
 ghost use Rattle.comlynx.specs.Reader as Comlynx;
 ghost use Rattle.eversolar.specs.Reader as Eversolar;
 ghost use Rattle.fronius.specs.Reader as Fronius;
 ghost use Rattle.listing.specs.Entries.{showComlynx, showEversolar, showFronius, entryLine};
-ghost use Rattle.listing.specs.Inside.{lengthIn, Put};
+ghost use Rattle.listing.specs.Inside.{Put};
 
 // The length of a line that was written.
 pub(crate) fn length_of(w: Written) -> usize

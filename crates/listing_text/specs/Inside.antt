@@ -1,4 +1,4 @@
--- What the inner functions promise. No public promise cites these.
+-- Need not be read: no public promise cites this. It is what the inner functions promise.
 use Prim.Native.Nat.{ℕ, zero, suc, _+_, _*_}
 use mathlib.Core.Path.{_≡_}
 use mathlib.Core.Bool.{cond}

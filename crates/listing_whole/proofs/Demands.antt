@@ -6,8 +6,8 @@ use mathlib.Core.Bool.{Bool, true, false, cond, _&&_, not}
 use mathlib.Core.Option.{Option, none, some}
 use mathlib.Core.List.{List, [], _∷_, _++_}
 use lib.ListN.{length, take, drop, length-take, length-drop}
-use lib.Dec.{eqb, ltb}
-use borrow.Author.Tests.{eqb-true, eqb-false, le-ltb}
+use lib.Dec.{eqb}
+use borrow.Author.Tests.{eqb-true, eqb-false, le-leb}
 use native.Mathlib.Omega.{arith}
 use Rattle.numbers.proofs.Alike.{zero-is-one}
 use Rattle.answers.specs.Answer.{number}
@@ -19,7 +19,7 @@ use Rattle.ports.proofs.EveryRow.{factsOf, OnSeat}
 use Rattle.ports.proofs.TableLaws.{seat-at}
 use Rattle.uplink.specs.Packet.{leadLength, pieceMax, portIn, countIn, packetAt}
 use Rattle.listing.specs.Steps.{packetIn, packetsMax}
-use Rattle.listing.specs.Steps.{IsFresh, fed, readableOn, readable, Made, refused, wantsMore, ends, takes, front, going, inRange, roomLeast, made, Sound, IsStep}
+use Rattle.listing.specs.Steps.{IsFresh, fed, readableOn, readable, Made, refused, wantsMore, ends, takes, taking, noPacket, atEnd, byPacket, going, inRange, roomLeast, made, Sound, IsStep}
 use Rattle.listing_whole.specs.Demands as Specs
 use Rattle.listing_whole.specs.Demands.{Reached, at-first, by-call}
 use Rattle.listing.specs.declared.Listing.{Listing}
@@ -99,27 +99,27 @@ module _ (l : Listing) (sound : Sound l) (why : Refusal) where
   readable-at : (port : ℕ) → OnSeat port → readable port (l .ports) ≡ true
   readable-at port at = ap (λ (on : Option Seat). readableOn on (l .ports)) (seat-at (at .0) (sym (at .1))) ∙ sound .readers (at .0)
 
-  front-not : (s : List ℕ) (ended : Bool) → Kind s → front l s ended .heard ≡ Refused why → ⊥
-  unfolding front
-  front-not s true (short n h) = rw n (λ e. zero-is-one cc)
-  front-not s false (short n h) = rw n (λ e. zero-is-one cc)
-  front-not s ended (wrong w a b n m) = rw (n, a, b) (λ e. zero-is-one cc)
-  front-not s ended (packet a p c d t n m) =
+  packet-not : (s : List ℕ) (ended : Bool) → Kind s → byPacket l s ended .heard ≡ Refused why → ⊥
+  unfolding byPacket taking noPacket
+  packet-not s true (short n h) = rw n (λ e. zero-is-one cc)
+  packet-not s false (short n h) = rw n (λ e. zero-is-one cc)
+  packet-not s ended (wrong w a b n m) = rw (n, a, b) (λ e. zero-is-one cc)
+  packet-not s ended (packet a p c d t n m) =
       rw (n, readable-at (portIn s) p) (λ e. zero-is-one cc)
 
   going-not : (s : List ℕ) (ended : Bool) → going l s ended .heard ≡ Refused why → ⊥
-  unfolding going
+  unfolding going atEnd
   going-not [] true = λ e. zero-is-one cc
   going-not [] false = λ e. zero-is-one cc
   going-not (b ∷ bs) ended = go (eqb (l .packets) packetsMax)
     where
-      go : (t : Bool) → cond t (ends l (some (refusalNumber TooManyPackets))) (front l (b ∷ bs) ended) .heard ≡ Refused why → ⊥
+      go : (t : Bool) → cond t (ends l (some (refusalNumber TooManyPackets))) (byPacket l (b ∷ bs) ended) .heard ≡ Refused why → ⊥
       go true e = zero-is-one cc
-      go false e = front-not (b ∷ bs) ended (kind (b ∷ bs)) e
+      go false e = packet-not (b ∷ bs) ended (kind (b ∷ bs)) e
 
   made-not : (s : List ℕ) (ended : Bool) (room : ℕ) → roomLeast ≤ room → made l s ended room .heard ≡ Refused why → ⊥
   unfolding made
-  made-not s ended room h = rw (sound .counts, le-ltb room roomLeast h) (going-not s ended)
+  made-not s ended room h = rw (sound .counts, le-leb roomLeast room h) (going-not s ended)
 
 fresh-sound : (l : Listing) → IsFresh l → Sound l
 unfolding inRange

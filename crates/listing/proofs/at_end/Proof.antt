@@ -2,8 +2,8 @@
 -- Assumes nothing.
 use mathlib.Core.Path.{refl, ap}
 use denote.Ref.{now}
-use Rattle.listing.specs.Steps.{wantsMore}
-use Rattle.listing.specs.Making.{atEnd, stopOf, finish}
+use Rattle.listing.specs.Steps.{wantsMore, atEnd}
+use Rattle.listing.specs.Inside.{stopOf, finish}
 use Rattle.listing.proofs.StepMakes.{nothing}
 use borrow.Author.Needs.{needs}
 use Rattle.listing.proofs.at_end.Statement.{statement}

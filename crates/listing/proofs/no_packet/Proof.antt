@@ -8,7 +8,7 @@ use denote.Ref.{now}
 use Rattle.answers.specs.Refusal.{number as refusalNumber}
 use Rattle.answers.specs.declared.Refusal.the-variants.{BytesMissing}
 use Rattle.listing.specs.Steps.{wantsMore, ends}
-use Rattle.listing.specs.Making.{stopOf}
+use Rattle.listing.specs.Inside.{stopOf}
 use Rattle.listing.proofs.StepMakes.{same-made, nothing, no-packet-more, no-packet-over}
 use borrow.Author.Needs.{needs}
 use Rattle.listing.proofs.no_packet.Statement.{statement}

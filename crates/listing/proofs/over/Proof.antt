@@ -2,7 +2,7 @@
 -- Assumes nothing.
 use mathlib.Core.Path.{_∙_, ap}
 use Prim.Native.Nat.{ℕ}
-use Rattle.listing.specs.Making.{finish}
+use Rattle.listing.specs.Inside.{finish}
 use borrow.Author.Needs.{needs}
 use Rattle.listing.proofs.over.Statement.{statement}
 use Rattle.listing.proofs.over.Tie as tie

@@ -2,7 +2,7 @@
 -- Assumes nothing.
 use denote.Ref.{now}
 use Rattle.listing_text.specs.Lines.{endLine}
-use Rattle.listing.specs.Making.{stopText}
+use Rattle.listing.specs.Inside.{stopText}
 use Rattle.listing.proofs.StepMakes.{put-after, last-lines}
 use borrow.Author.Needs.{needs}
 use Rattle.listing.proofs.put_last.Statement.{statement}

@@ -6,7 +6,7 @@ use borrow.Author.Tests.{eq-eqb, ne-eqb}
 use denote.Ref.{now}
 use Rattle.listing_text.specs.Lines.{stopLine}
 use Rattle.listing_text.proofs.LineLengths.{stop-most}
-use Rattle.listing.specs.Making.{stopText}
+use Rattle.listing.specs.Inside.{stopText}
 use Rattle.listing.proofs.StepMakes.{line-put}
 use borrow.Author.Needs.{needs}
 use Rattle.listing.proofs.put_stop.Statement.{statement}

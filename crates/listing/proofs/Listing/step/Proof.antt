@@ -14,9 +14,9 @@ use Rattle.uplink.specs.Demands.{Within}
 use Rattle.uplink.specs.declared.Received.the-variants.{Packet}
 use Rattle.uplink.proofs.Demands.{fits}
 use Rattle.ports.specs.Ports.{comlynxSeat, eversolarSeat, froniusSeat}
-use Rattle.listing.specs.Steps.{refused, ends, inRange, roomLeast, made}
-use Rattle.listing.specs.Making.{stopOf, CanTake, packet, taking}
-use Rattle.listing.proofs.StepMakes.{fits as counts-fit, in-few, counts-few, same-made, nothing, line-long, drain-refused, drain-taken, out-of-range, no-room, no-input, too-many, one-packet, refused-packet}
+use Rattle.listing.specs.Steps.{refused, ends, taking, inRange, roomLeast, made}
+use Rattle.listing.specs.Inside.{stopOf}
+use Rattle.listing.proofs.StepMakes.{CanTake, packet, fits as counts-fit, in-counts, same-made, nothing, line-long, drain-refused, drain-taken, out-of-range, no-room, no-input, too-many, one-packet, refused-packet}
 use borrow.Author.Needs.{needs}
 use Rattle.listing.proofs.Listing.step.Statement.{statement}
 use Rattle.listing.proofs.Listing.step.Tie as tie
@@ -26,7 +26,7 @@ abbrev args-of : tie.Else1 → tie.Start
 args-of c = c .before .before .before .before
 
 counted : (c : tie.Else1) → inRange (args-of c .args .self) ≡ true
-counted c = sym (in-few (args-of c .args .self)) ∙ sym (c .before .in-range .ensures) ∙ not-false _ (c .if1 .left)
+counted c = sym (c .before .in-range .ensures (args-of c .args .self .ports)) ∙ not-false _ (c .if1 .left)
 
 -- back to that place, from where a packet may be taken
 abbrev from-four : tie.Else4 → tie.Else1
@@ -68,7 +68,7 @@ can-take c =
     let l = args-of e .args .self in
     let w = within c in
     let long = line-long (input-of c) (port-of c) (count-of c) (used-of c) w in
-    let counts = counts-few (l .packets) (l .messages) (l .damages) (in-few l ∙ counted e) in
+    let counts = in-counts l (counted e) in
     record {
       counts = counted e;
       packets = omega (arith, counts .0, four .if4 .left);
@@ -98,7 +98,7 @@ refused-requires c κs = search needs
 returns : tie.Need-returns
 returns c =
     let a = c .before .before .before .before .before .args in
-    let out : inRange (a .self) ≡ false = sym (in-few (a .self)) ∙ sym (c .before .before .in-range .ensures) ∙ not-true _ (c .before .if1 .taken) in
+    let out : inRange (a .self) ≡ false = sym (c .before .before .in-range .ensures (a .self .ports)) ∙ not-true _ (c .before .if1 .taken) in
     same-made (a .self) (now (a .out)) (now (a .out)) (c .refused .result) (out-of-range (a .self) (now (a .input)) (a .ended) (length (now (a .out))) out)
     (nothing (a .self) (refused Spoilt (a .self)) (now (a .out)) (c .refused .result) refl refl (c .refused .ensures))
 
