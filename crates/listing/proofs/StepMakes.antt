@@ -17,10 +17,8 @@ use native.Mathlib.Nat.{le-refl}
 use native.Mathlib.Omega.{arith}
 use Rattle.answers.specs.Answer.{number}
 use Rattle.answers.specs.Refusal.{number as refusalNumber}
-use Rattle.answers.specs.Written.{lengthIn, Writes}
 use Rattle.answers.specs.declared.Refusal.{Refusal}
 use Rattle.answers.specs.declared.Refusal.the-variants.{NoRoom, BytesMissing, Spoilt, TooManyPackets}
-use Rattle.answers.specs.declared.Written.{Written}
 use Rattle.answers.proofs.NumbersHaveCases.{refusal-above}
 use Rattle.stream.specs.Pieces.{calls}
 use Rattle.uplink.specs.Packet.{leadLength, pieceMax, countIn, packetAt, IsRead}
@@ -33,7 +31,6 @@ use Rattle.ports.specs.declared.Ports.{Ports}
 use Rattle.ports.proofs.EveryRow.{factsOf}
 use Rattle.ports.proofs.TableLaws.{same-seat}
 use Rattle.listing_text.specs.Lines.{stopLine, endLine}
-use Rattle.listing_text.proofs.LineLengths.{line-written}
 use Rattle.listing.specs.Entries.{showEvent, lastLines}
 use Rattle.listing.specs.Steps.{Packet, packetIn, packetsMax}
 use Rattle.listing.specs.Steps.{Fed, fed, readableOn, readable, Made, refused, wantsMore, ends, takes, taking, noPacket, atEnd, byPacket, going, inRange, roomLeast, made, Sound, listed, HandsBack}
@@ -73,12 +70,6 @@ fits l can d =
     (omega (arith, before .1, d .0, can .packets), omega (arith, before .2, d .1, can .packets))
 
 -- ---- text
-
--- a line that has room, its length taken out
-pub line-put : (piece lent later : List ℕ) (w : Written) (n : ℕ) → Writes false piece lent w later → length piece ≤ length lent → n ≡ lengthIn w → Put piece lent n later
-line-put piece lent later w n x room e =
-    let done = line-written false piece lent later w x refl room in
-    (e ∙ ap lengthIn (done .0), done .1)
 
 -- text after text
 pub put-after : (a b lent mid m : List ℕ) (p q : ℕ) → Put a lent p mid → Put b (take (length mid - p) (drop p mid)) q m

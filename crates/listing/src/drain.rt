@@ -17,9 +17,9 @@ ghost use Rattle.listing.specs.Steps.{roomLeast};
 ghost use Rattle.listing.specs.Inside.{Drains};
 
 // What every reader is to be lent.
-const LENT: usize = 255;
+const LENT: usize = comlynx::Reader::LENT;
 
-// What a line came to: the reader to go on with, whether it was refused, how much text was written, and the counts.
+// What a piece came to: the reader to go on with, whether it was refused, how much text was written, and the counts.
 pub(crate) struct ComlynxDrained {
     pub reader: comlynx::Reader,
     pub spoilt: bool,
@@ -58,8 +58,8 @@ pub(crate) fn drain_comlynx(
     let mut lent = [0u8; LENT];
     let answer = comlynx::Answer::Done;
     let mut s = comlynx::Step {
-        reader: reader,
-        answer: answer,
+        reader,
+        answer,
         used: 0,
     };
     let mut spoilt = false;
@@ -90,10 +90,10 @@ pub(crate) fn drain_comlynx(
     let next = s.reader;
     ComlynxDrained {
         reader: next,
-        spoilt: spoilt,
-        wrote: wrote,
-        messages: messages,
-        damages: damages,
+        spoilt,
+        wrote,
+        messages,
+        damages,
     }
 }
 
@@ -109,8 +109,8 @@ pub(crate) fn drain_eversolar(
     let mut lent = [0u8; LENT];
     let answer = eversolar::Answer::Done;
     let mut s = eversolar::Step {
-        reader: reader,
-        answer: answer,
+        reader,
+        answer,
         used: 0,
     };
     let mut spoilt = false;
@@ -141,10 +141,10 @@ pub(crate) fn drain_eversolar(
     let next = s.reader;
     EversolarDrained {
         reader: next,
-        spoilt: spoilt,
-        wrote: wrote,
-        messages: messages,
-        damages: damages,
+        spoilt,
+        wrote,
+        messages,
+        damages,
     }
 }
 
@@ -160,8 +160,8 @@ pub(crate) fn drain_fronius(
     let mut lent = [0u8; LENT];
     let answer = fronius::Answer::Done;
     let mut s = fronius::Step {
-        reader: reader,
-        answer: answer,
+        reader,
+        answer,
         used: 0,
     };
     let mut spoilt = false;
@@ -192,9 +192,9 @@ pub(crate) fn drain_fronius(
     let next = s.reader;
     FroniusDrained {
         reader: next,
-        spoilt: spoilt,
-        wrote: wrote,
-        messages: messages,
-        damages: damages,
+        spoilt,
+        wrote,
+        messages,
+        damages,
     }
 }

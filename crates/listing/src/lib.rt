@@ -5,8 +5,10 @@ mod shown;
 use crate::drain::drain_comlynx;
 use crate::drain::drain_eversolar;
 use crate::drain::drain_fronius;
-use crate::shown::length_of;
 use answers::Refusal;
+use ports::COMLYNX;
+use ports::EVERSOLAR;
+use ports::FRONIUS;
 use ports::Ports;
 use uplink::LEAD;
 use uplink::PIECE_MAX;
@@ -56,13 +58,6 @@ pub struct Listed {
     pub wrote: usize,
 }
 
-// Which port has which family.
-const COMLYNX: u8 = 1;
-
-const EVERSOLAR: u8 = 2;
-
-const FRONIUS: u8 = 3;
-
 // No stop line before the end line.
 const NO_STOP: u8 = 0;
 
@@ -84,7 +79,7 @@ fn refused(l: Listing, why: Refusal) -> Listed
     let heard = Heard::Refused(why);
     Listed {
         listing: l,
-        heard: heard,
+        heard,
         used: 0,
         wrote: 0,
     }
@@ -96,7 +91,7 @@ fn wants_more(l: Listing) -> Listed
     let heard = Heard::More;
     Listed {
         listing: l,
-        heard: heard,
+        heard,
         used: 0,
         wrote: 0,
     }
@@ -111,7 +106,7 @@ fn put_stop(stop: u8, out: &mut [u8]) -> usize
     if stop == NO_STOP {
         return 0;
     }
-    length_of(listing_text::stop(stop, out))
+    listing_text::stop(stop, out).length()
 }
 
 // The line with the counts.
@@ -120,7 +115,7 @@ fn put_end(messages: u64, damages: u64, out: &mut [u8]) -> usize
     ensures { λ r. ⌜ Put (endLine messages damages) (now (out .entry)) r (now (out .exit)) ⌝ }
     ensures { λ r. ⌜ r ≤ endMost ⌝ }
 {
-    length_of(listing_text::end(messages, damages, out))
+    listing_text::end(messages, damages, out).length()
 }
 
 // The last lines.
@@ -140,9 +135,9 @@ fn finished(l: Listing, wrote: usize) -> Listed
     let heard = Heard::End;
     Listed {
         listing: l,
-        heard: heard,
+        heard,
         used: 0,
-        wrote: wrote,
+        wrote,
     }
 }
 
@@ -174,9 +169,9 @@ fn taken(l: Listing, used: usize, wrote: usize) -> Listed
     let heard = Heard::Packet;
     Listed {
         listing: l,
-        heard: heard,
-        used: used,
-        wrote: wrote,
+        heard,
+        used,
+        wrote,
     }
 }
 
@@ -199,7 +194,7 @@ impl Listing {
     {
         let ports = Ports::fresh();
         Listing {
-            ports: ports,
+            ports,
             packets: 0,
             messages: 0,
             damages: 0,
@@ -207,7 +202,7 @@ impl Listing {
     }
 
     // One packet: that at the front of the input at hand. `ended` says that no more is to come after it. A packet's bytes are used, and its
-    // lines written, all or none.
+    // lines written, all or none. The three ways stand in one long function: each function between would copy the listing, 740 bytes, once more.
     pub fn step(mut self, input: &[u8], ended: bool, out: &mut [u8]) -> Listed
         ensures { λ r. ⌜ IsStep self (now (input .entry)) ended (now (out .entry)) r (now (out .exit)) ⌝ }
     {

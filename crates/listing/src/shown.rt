@@ -1,11 +1,8 @@
 // The line of each answer: a message is shown as four lists of bytes, whatever its family.
 use answers::Damage;
-use answers::Written;
 ghost use Prim.Native.Nat.{_≤_};
-ghost use mathlib.Core.Path.{_≡_};
 ghost use lib.ListN.{length};
 ghost use Rattle.answers.specs.Damage as DamageNumber;
-ghost use Rattle.answers.specs.Written.{lengthIn};
 ghost use Rattle.stream.specs.Event.{message, damage};
 ghost use Rattle.stream.specs.Call.{lentLeast};
 ghost use Rattle.comlynx.specs.Reader as Comlynx;
@@ -14,17 +11,7 @@ ghost use Rattle.fronius.specs.Reader as Fronius;
 ghost use Rattle.listing.specs.Entries.{showComlynx, showEversolar, showFronius, entryLine};
 ghost use Rattle.listing.specs.Inside.{Put};
 
-// The length of a line that was written.
-pub(crate) fn length_of(w: Written) -> usize
-    ensures { λ r. ⌜ r ≡ lengthIn w ⌝ }
-{
-    match w {
-        Written::Done(n) => n,
-        Written::Refused(_) => 0,
-    }
-}
-
-// A ComLynx message, whose data stand at the front of `content`.
+// A ComLynx message, whose data stand at the front of `payload`.
 pub(crate) fn comlynx_line(port: u8, h: comlynx::Header, payload: &[u8], out: &mut [u8]) -> usize
     requires { ⌜ (h .len ≤ lentLeast) × (h .len ≤ length (now payload)) × (length (entryLine port (message (showComlynx (Comlynx.join h (now payload))))) ≤ length (now out)) ⌝ }
     ensures { λ r. ⌜ Put (entryLine port (message (showComlynx (Comlynx.join h (now (payload .entry)))))) (now (out .entry)) r (now (out .exit)) ⌝ }
@@ -33,7 +20,7 @@ pub(crate) fn comlynx_line(port: u8, h: comlynx::Header, payload: &[u8], out: &m
     let to = [(h.destination / 256) as u8, (h.destination % 256) as u8];
     let code = [h.kind];
     let n = h.len;
-    length_of(listing_text::message(port, &from, &to, &code, &payload[..n], out))
+    listing_text::message(port, &from, &to, &code, &payload[..n], out).length()
 }
 
 // An Eversolar message.
@@ -50,7 +37,7 @@ pub(crate) fn eversolar_line(
     let to = [h.destination_first, h.destination_second];
     let code = [h.control, h.function];
     let n = h.len;
-    length_of(listing_text::message(port, &from, &to, &code, &payload[..n], out))
+    listing_text::message(port, &from, &to, &code, &payload[..n], out).length()
 }
 
 // A Fronius message, which comes from nobody.
@@ -61,7 +48,7 @@ pub(crate) fn fronius_line(port: u8, h: fronius::Header, payload: &[u8], out: &m
     let to = [h.device, h.number];
     let code = [h.command];
     let n = h.len;
-    length_of(listing_text::message(port, b"", &to, &code, &payload[..n], out))
+    listing_text::message(port, b"", &to, &code, &payload[..n], out).length()
 }
 
 // A damage of any family.
@@ -69,5 +56,5 @@ pub(crate) fn damage_line(port: u8, what: Damage, out: &mut [u8]) -> usize
     requires { ⌜ length (entryLine port (damage (DamageNumber.number what))) ≤ length (now out) ⌝ }
     ensures { λ r. ⌜ Put (entryLine port (damage (DamageNumber.number what))) (now (out .entry)) r (now (out .exit)) ⌝ }
 {
-    length_of(listing_text::damage(port, what.number(), out))
+    listing_text::damage(port, what.number(), out).length()
 }

@@ -2,12 +2,13 @@
 -- Assumes nothing.
 use native.Mathlib.Omega.{arith}
 use mathlib.Core.Path.{refl}
+use mathlib.Core.Bool.{false}
 use borrow.Author.Tests.{eq-eqb, ne-eqb}
 use denote.Ref.{now}
 use Rattle.listing_text.specs.Lines.{stopLine}
 use Rattle.listing_text.proofs.LineLengths.{stop-most}
 use Rattle.listing.specs.Inside.{stopText}
-use Rattle.listing.proofs.StepMakes.{line-put}
+use Rattle.listing.proofs.DrainReadsPiece.{put-line}
 use borrow.Author.Needs.{needs}
 use Rattle.listing.proofs.put_stop.Statement.{statement}
 use Rattle.listing.proofs.put_stop.Tie as tie
@@ -19,8 +20,8 @@ returns c = rw (eq-eqb (c .before .before .args .stop) 0 (omega arith)) ((refl, 
 stop-requires : tie.Need-stop-requires
 stop-requires c κs = search needs
 
-length-of-requires : tie.Need-length-of-requires
-length-of-requires c κs = search needs
+length-requires : tie.Need-length-requires
+length-requires c κs = search needs
 
 same-length : tie.Need-same-length
 same-length c = search needs
@@ -31,9 +32,9 @@ returns-2 c =
     let a = c .before .before .before .before .before .before .before .args in
     let s = c .before .before .before .stop in
     let most = stop-most (a .stop) (omega arith) in
-    let put = line-put (stopLine (a .stop)) (now (a .out)) (s .last .1 .0) (s .result) (c .length-of .result) (s .ensures) (omega arith) (c .length-of .ensures) in
+    let put = put-line false (stopLine (a .stop)) (now (a .out)) (s .last .1 .0) (s .result) (c .length .result) (s .ensures) refl (omega arith) (c .length .ensures) in
     rw (ne-eqb (a .stop) 0 (λ e. omega arith)) (put, omega (arith, put .0))
 
 pub put-stop-spec : {M : Type 1} → statement M
 put-stop-spec =
-    tie.close (tie.spec returns stop-requires length-of-requires same-length returns-2)
+    tie.close (tie.spec returns stop-requires length-requires same-length returns-2)

@@ -15,8 +15,8 @@ number-requires c κs = search needs
 damage-requires : tie.Need-damage-requires
 damage-requires c κs = search needs
 
-length-of-requires : tie.Need-length-of-requires
-length-of-requires c κs = search needs
+length-requires : tie.Need-length-requires
+length-requires c κs = search needs
 
 same-length : tie.Need-same-length
 same-length c = search needs
@@ -26,7 +26,7 @@ returns c =
     let m = c .before .before .before in
     let n = m .before .before in
     let s = n .before .before in
-    put-line false (damageLine (s .args .port) (DamageNumber.number (s .args .what))) (s .args .out .now) _ (m .damage .result) _ (rw (n .number .ensures) at (m .damage .ensures)) refl (s .pre) (c .length-of .ensures)
+    put-line false (damageLine (s .args .port) (DamageNumber.number (s .args .what))) (s .args .out .now) _ (m .damage .result) _ (rw (n .number .ensures) at (m .damage .ensures)) refl (s .pre) (c .length .ensures)
 
 pub damage-line-spec : {M : Type 1} → statement M
-damage-line-spec = tie.close (tie.spec number-requires damage-requires length-of-requires same-length returns)
+damage-line-spec = tie.close (tie.spec number-requires damage-requires length-requires same-length returns)

@@ -31,8 +31,8 @@ slice-aggregate-message-4 c =
 message-requires : tie.Need-message-requires
 message-requires c κs = search needs
 
-length-of-requires : tie.Need-length-of-requires
-length-of-requires c κs = search needs
+length-requires : tie.Need-length-requires
+length-requires c κs = search needs
 
 same-length : tie.Need-same-length
 same-length c = search needs
@@ -42,7 +42,7 @@ returns c =
     let m = c .before .before .before in
     let s = m .before .before .before .before .before .before .before .before in
     let short = not-too-long (given s) (omega arith) (omega arith) (omega arith) (simp length-take (omega (arith, s .pre .0))) in
-    put-line (tooLong (given s)) (messageLine (s .args .port) (given s)) (s .args .out .now) _ (m .message .result) _ (m .message .ensures) short (s .pre .2) (c .length-of .ensures)
+    put-line (tooLong (given s)) (messageLine (s .args .port) (given s)) (s .args .out .now) _ (m .message .result) _ (m .message .ensures) short (s .pre .2) (c .length .ensures)
 
 pub fronius-line-spec : {M : Type 1} → statement M
 fronius-line-spec =
@@ -53,6 +53,6 @@ fronius-line-spec =
     slice-aggregate-message-3
     slice-aggregate-message-4
     message-requires
-    length-of-requires
+    length-requires
     same-length
     returns)
