@@ -3,12 +3,14 @@
 use Prim.Native.Nat.{ℕ, _+_, _*_, _-_, _≤_, _<_}
 use mathlib.Core.Path.{_≡_, refl, sym, ap, _∙_}
 use mathlib.Core.Bool.{Bool, true, false}
+use mathlib.Core.Option.{some}
 use mathlib.Core.List.{List, _++_}
 use lib.ListN.{length, take, drop, length-append, length-take}
 use native.Mathlib.Omega.{arith}
 use Rattle.numbers.proofs.Alike.{zero-is-one}
+use Rattle.answers.specs.Written.{lengthIn}
 use Rattle.answers.specs.declared.Written.{Written}
-use Rattle.answers.specs.declared.Written.the-variants.{Done}
+use Rattle.answers.specs.declared.Written.the-variants.{Done, Refused}
 use Rattle.answers.proofs.WriterPromise.{writes-frame}
 use Rattle.listing_text.specs.Lines.{titleLine, IsTitle}
 use Rattle.uplink.specs.Packet.{leadLength, pieceMax}
@@ -18,9 +20,10 @@ use Rattle.listing.specs.declared.Listed.{Listed}
 
 -- ---- what was written fits
 
-pub title-fits : (lent later : List ℕ) (w : Written) (n : ℕ) → IsTitle lent w later → length later ≡ length lent → w ≡ Done n → n ≤ length lent
-title-fits lent later w n st same e =
-    let f = writes-frame false titleLine lent later w n st (rw e refl) in
+pub title-fits : (lent later : List ℕ) (w : Written) (n : ℕ) → IsTitle lent w later → length later ≡ length lent → n ≡ lengthIn w → n ≤ length lent
+title-fits lent later (Refused why) n st same e = omega arith
+title-fits lent later (Done m) n st same e =
+    let f = writes-frame false titleLine lent later (Done m) n st (ap some (sym e)) in
     let g : length (take n later) ≡ n = ap length (f .0) ∙ sym (f .1) in
     let h = rw length-take at g in
     omega arith

@@ -78,20 +78,25 @@ fn make_room(out: &[u8], at: usize) -> Filled
     if out.len() - at < listing::ROOM {
         return flush(out, at);
     }
-    Filled {
-        at: at,
-        failed: false,
-    }
+    Filled { at, failed: false }
 }
 
 // The header stands in the buffer.
 fn start(out: &mut [u8]) -> usize
     ensures { λ r. ⌜ r ≤ length (now (out .entry)) ⌝ }
 {
-    let w = listing_text::title(out);
-    match w {
-        answers::Written::Done(n) => n,
-        answers::Written::Refused(_) => 0,
+    listing_text::title(out).length()
+}
+
+// Before the first call: nothing is taken, and input is wanted.
+fn none_taken() -> Listed {
+    let listing = Listing::fresh();
+    let heard = Heard::More;
+    Listed {
+        listing,
+        heard,
+        used: 0,
+        wrote: 0,
     }
 }
 
@@ -100,14 +105,7 @@ fn list(input: &mut [u8], out: &mut [u8])
     requires { ⌜ roomLeast ≤ length (now out) ⌝ }
 {
     let mut at = start(out);
-    let listing = Listing::fresh();
-    let heard = Heard::More;
-    let mut s = Listed {
-        listing: listing,
-        heard: heard,
-        used: 0,
-        wrote: 0,
-    };
+    let mut s = none_taken();
     let mut from: usize = 0;
     let mut to: usize = 0;
     let mut ended = false;
@@ -121,9 +119,7 @@ fn list(input: &mut [u8], out: &mut [u8])
         at += s.wrote;
         let heard = s.heard;
         match heard {
-            Heard::Packet => {
-                from += s.used;
-            }
+            Heard::Packet => from += s.used,
             Heard::More => {
                 let done = flush(out, at);
                 if done.failed {
@@ -135,12 +131,8 @@ fn list(input: &mut [u8], out: &mut [u8])
                 to = w.to;
                 ended = w.ended;
             }
-            Heard::End => {
-                break;
-            }
-            Heard::Refused(_) => {
-                break;
-            }
+            Heard::End => break,
+            Heard::Refused(_) => break,
         }
     }
     flush(out, at);

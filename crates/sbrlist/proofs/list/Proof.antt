@@ -86,8 +86,8 @@ back c = c .before .before .before
 start-requires : tie.Need-start-requires Inv-loop μ-loop
 start-requires c κs = search needs
 
-fresh-requires : tie.Need-fresh-requires Inv-loop μ-loop
-fresh-requires c κs = search needs
+none-taken-requires : tie.Need-none-taken-requires Inv-loop μ-loop
+none-taken-requires c κs = search needs
 
 loop-holds : tie.Need-loop-holds Inv-loop μ-loop
 loop-holds c = search needs
@@ -216,7 +216,7 @@ list-spec =
     Inv-loop
     μ-loop
     start-requires
-    fresh-requires
+    none-taken-requires
     loop-holds
     make-room-requires
     same-length
