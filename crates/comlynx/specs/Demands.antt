@@ -12,7 +12,7 @@ use Rattle.answers.specs.declared.Written.{Written}
 use Rattle.stream.specs.Event.{message}
 use Rattle.stream.specs.Call.{seenBy}
 use Rattle.stream.specs.Family.{Family}
-use Rattle.stream.specs.Demands as Demands
+use Rattle.stream.specs.Demands.{Demands}
 use Rattle.comlynx.specs.Wire.{Message, Takes, payloadMax, body, flag, escape, stuffed, wire}
 use Rattle.comlynx.specs.Rules.{judge, rule}
 use Rattle.comlynx.specs.Machine.{fresh}
@@ -41,29 +41,9 @@ comlynx = record {
   seen = seenBy join shown;
 }
 
-abbrev pub Accepts : Type 0
-Accepts = Demands.Accepts comlynx
-
-abbrev pub ReadsBack : Type 0
-ReadsBack = Demands.ReadsBack comlynx
-
-abbrev pub Handed : Type 0
-Handed = Demands.Handed comlynx
-
-abbrev pub InPieces : Type 0
-InPieces = Demands.InPieces comlynx
-
-abbrev pub UsedUp : Type 0
-UsedUp = Demands.UsedUp comlynx
-
-abbrev pub Different : Type 0
-Different = Demands.Different comlynx
-
-abbrev pub Kept : Type 0
-Kept = Demands.Kept comlynx
-
-abbrev pub NeverSpoilt : Type 0
-NeverSpoilt = Demands.NeverSpoilt comlynx
+-- WHAT IS DEMANDED OF COMLYNX: demands 1 to 3 of document 01, each a field of `Demands`, over the rule, the writer and the reader above
+abbrev pub Demanded : Type 0
+Demanded = Demands comlynx
 
 -- ---- its own
 

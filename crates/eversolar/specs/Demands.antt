@@ -3,7 +3,7 @@ use Rattle.answers.specs.Written.{lengthOf}
 use Rattle.answers.specs.declared.Written.{Written}
 use Rattle.stream.specs.Call.{seenBy}
 use Rattle.stream.specs.Family.{Family}
-use Rattle.stream.specs.Demands as Demands
+use Rattle.stream.specs.Demands.{Demands}
 use Rattle.eversolar.specs.Wire.{Message, Takes, wire}
 use Rattle.eversolar.specs.Rules.{rule}
 use Rattle.eversolar.specs.Machine.{fresh}
@@ -31,26 +31,6 @@ eversolar = record {
   seen = seenBy join shown;
 }
 
-abbrev pub Accepts : Type 0
-Accepts = Demands.Accepts eversolar
-
-abbrev pub ReadsBack : Type 0
-ReadsBack = Demands.ReadsBack eversolar
-
-abbrev pub Handed : Type 0
-Handed = Demands.Handed eversolar
-
-abbrev pub InPieces : Type 0
-InPieces = Demands.InPieces eversolar
-
-abbrev pub UsedUp : Type 0
-UsedUp = Demands.UsedUp eversolar
-
-abbrev pub Different : Type 0
-Different = Demands.Different eversolar
-
-abbrev pub Kept : Type 0
-Kept = Demands.Kept eversolar
-
-abbrev pub NeverSpoilt : Type 0
-NeverSpoilt = Demands.NeverSpoilt eversolar
+-- WHAT IS DEMANDED OF EVERSOLAR: demands 1 to 3 of document 01, each a field of `Demands`, over the rule, the writer and the reader above
+abbrev pub Demanded : Type 0
+Demanded = Demands eversolar

@@ -28,7 +28,7 @@ use Rattle.eversolar_requests.specs.declared.ToOne.{ToOne}
 use Rattle.eversolar_requests.specs.declared.ToOne.the-variants.{Remove, Normal, Identity, Settings, FixedSize}
 use Rattle.eversolar.specs.declared.reader.Step.{Step}
 use Rattle.eversolar_requests.proofs.BuilderEnds.{wrote}
-use Rattle.eversolar.proofs.Demands.{reads-back}
+use Rattle.eversolar.proofs.Demands.{demanded}
 
 -- ---- reading back is one step away: what a fresh reader tells of a request that was written, whatever follows it
 
@@ -40,7 +40,7 @@ ReadsAs m frame n =
 reads-as : (m : Message) (room frame : List ℕ) (w : Written) (n : ℕ) → Takes m → Writes false (wire m) room w frame → lengthOf w ≡ some n → ReadsAs m frame n
 reads-as m room frame w n t h e =
     let fits : length (m .payload) ≤ payloadMax = t .fits in
-    reads-back m t room frame w n (subst (λ (b : Bool). Writes b (wire m) room w frame) (sym (le-ltb payloadMax (length (m .payload)) fits)) h) e
+    demanded .reads-back m t room frame w n (subst (λ (b : Bool). Writes b (wire m) room w frame) (sym (le-ltb payloadMax (length (m .payload)) fits)) h) e
 
 request-takes : (address control function : ℕ) (payload : List ℕ) → address < 256 → control < 256 → function < 256 → T (areBytes payload) → length payload ≤ payloadMax → Takes (request address control function payload)
 request-takes address control function payload a c f g fits =

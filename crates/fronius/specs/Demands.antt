@@ -3,7 +3,7 @@ use Rattle.answers.specs.Written.{lengthOf}
 use Rattle.answers.specs.declared.Written.{Written}
 use Rattle.stream.specs.Call.{seenBy}
 use Rattle.stream.specs.Family.{Family}
-use Rattle.stream.specs.Demands as Demands
+use Rattle.stream.specs.Demands.{Demands}
 use Rattle.fronius.specs.Wire.{Message, Takes, wire}
 use Rattle.fronius.specs.Rules.{rule}
 use Rattle.fronius.specs.Machine.{fresh}
@@ -31,26 +31,6 @@ fronius = record {
   seen = seenBy join shown;
 }
 
-abbrev pub Accepts : Type 0
-Accepts = Demands.Accepts fronius
-
-abbrev pub ReadsBack : Type 0
-ReadsBack = Demands.ReadsBack fronius
-
-abbrev pub Handed : Type 0
-Handed = Demands.Handed fronius
-
-abbrev pub InPieces : Type 0
-InPieces = Demands.InPieces fronius
-
-abbrev pub UsedUp : Type 0
-UsedUp = Demands.UsedUp fronius
-
-abbrev pub Different : Type 0
-Different = Demands.Different fronius
-
-abbrev pub Kept : Type 0
-Kept = Demands.Kept fronius
-
-abbrev pub NeverSpoilt : Type 0
-NeverSpoilt = Demands.NeverSpoilt fronius
+-- WHAT IS DEMANDED OF FRONIUS: demands 1 to 3 of document 01, each a field of `Demands`, over the rule, the writer and the reader above
+abbrev pub Demanded : Type 0
+Demanded = Demands fronius

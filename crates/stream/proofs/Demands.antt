@@ -16,7 +16,7 @@ use Rattle.stream.specs.Call.{Seen, lentLeast, refused, answered, called
 use Rattle.stream.specs.Written.{written, ended, Each}
 use Rattle.stream.specs.Rule.{Settled, andOn, firstReadings, readings}
 use Rattle.stream.specs.Family.{Family, Call, toldBefore, sees, Allowed, used, toldFrom, Serves, ends, turns, calls}
-use Rattle.stream.specs.Demands.{asTold, Accepts, ReadsBack, Handed, InPieces, UsedUp, Different, Kept, NeverSpoilt}
+use Rattle.stream.specs.Demands.{asTold, Accepts, ReadsBack, Handed, InPieces, UsedUp, Different, Kept, NeverSpoilt, Demands}
 use Rattle.stream.proofs.BytesOfParts.{bytes-append, bytes-drop}
 use Rattle.stream.proofs.CallsComeTo.{settledBefore, events, settledIn, settledIn-events, scan-settledIn}
 use Rattle.stream.proofs.LoopScans.{scan-used, scan-uses, scan-none, scan-front}
@@ -248,3 +248,15 @@ module _ (F : Family) (facts : Facts F) where
       never : (s : F .State) (piece lent later : List ℕ) (r : F .Result) → facts .inRange s ≡ true → F .Steps s piece lent r later → F .seen r later .told ≡ refuses 18 → ⊥
       never s piece lent later r good st e =
           spoilt-only (facts .next) (facts .inRange) s piece lent good (sym (ap (λ (v : Seen (F .State) (F .Message)). v .told) (facts .steps s piece lent later r st)) ∙ e)
+
+pub demands : (F : Family) → Facts F → Demands F
+demands F facts = record {
+  accepts = accepts F facts;
+  reads-back = reads-back F facts;
+  handed = handed F facts;
+  in-pieces = in-pieces F;
+  used-up = used-up F facts;
+  different = different F facts;
+  kept = kept F facts;
+  never-spoilt = never-spoilt F facts;
+}

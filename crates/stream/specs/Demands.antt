@@ -1,4 +1,4 @@
--- The demands, for any machine and for any family. A family's own demands are these at that family, and nothing else.
+-- What is demanded of every family, as one record: a family's own demands are that record at that family. Before them two laws of any machine.
 use Prim.Native.Nat.{ℕ, _≤_, _<_}
 use mathlib.Core.Path.{_≡_}
 use mathlib.Core.Option.{none, some}
@@ -13,7 +13,7 @@ use Rattle.stream.specs.Written.{written, ended, Each}
 use Rattle.stream.specs.Rule.{Settled, readings}
 use Rattle.stream.specs.Family.{Family, Call, Allowed, used, toldFrom, Serves}
 
--- ---- of any machine
+-- ---- laws of any machine: they are no demands, since every machine meets them
 
 module _ {S E : Type 0} (next : S → ℕ → Moved S E) where
   -- pieces do not matter: the same bytes in one piece come to the same
@@ -24,7 +24,7 @@ module _ {S E : Type 0} (next : S → ℕ → Moved S E) where
   abbrev pub UsedUpInTime : Type 0
   UsedUpInTime = (s : S) (p : List ℕ) (n : ℕ) → length p ≤ n → (calls next n s p .left ≡ []) × (calls next n s p ≡ calls next (length p) s p)
 
--- ---- of any family
+-- ---- the demands, of any family
 
 -- an event as a host is told it
 abbrev pub asTold : {M : Type 0} → Settled (Event M) → Settled (Told M)
@@ -92,3 +92,14 @@ module _ (F : Family) where
       → (F .seen r later .told ≡ refuses 18 → ⊥)
       → (piece′ lent′ later′ : List ℕ) (r′ : F .Result) → F .Steps (F .seen r later .state) piece′ lent′ r′ later′
       → F .seen r′ later′ .told ≡ refuses 18 → ⊥)
+
+-- ALL THAT IS DEMANDED of a family, in one statement
+pub record Demands (F : Family) : Type 0 where
+  pub accepts : Accepts F
+  pub reads-back : ReadsBack F
+  pub handed : Handed F
+  pub in-pieces : InPieces F
+  pub used-up : UsedUp F
+  pub different : Different F
+  pub kept : Kept F
+  pub never-spoilt : NeverSpoilt F
