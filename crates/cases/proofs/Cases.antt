@@ -16,5 +16,5 @@ use Rattle.fronius_meaning.specs.Reading as Reading
 use Rattle.cases.specs.Cases.{AllHold}
 
 pub all-hold : AllHold
-unfolding folded bitStep bitSteps entry checksumNext checksumFrom checksumOf sentAfter sent agrees ComLynxWire.body ComLynxRules.judged ComLynxRules.judge ComLynxRules.within ComLynxRules.before EversolarWords.word EversolarWords.wordBytes EversolarWire.checksum EversolarWire.judged EversolarRules.frame EversolarRules.sought EversolarEnergy.item EversolarEnergy.energyOf EversolarWaits.waitAt EversolarWaits.waitOf FroniusWire.checksum FroniusWire.judged FroniusRules.frame FroniusRules.sized FroniusRules.sought Measured.thousandthsOf Reading.readingOf Reading.kindOf
+unfolding folded bitStep bitSteps entry checksumNext checksumFrom checksumOf sentAfter sent agrees ComLynxWire.body ComLynxRules.judged ComLynxRules.judge ComLynxRules.within ComLynxRules.before EversolarWords.word EversolarWords.wordBytes EversolarWire.checksum EversolarRules.judged EversolarRules.frame EversolarRules.sought EversolarEnergy.item EversolarEnergy.energyOf EversolarWaits.waitAt EversolarWaits.waitOf FroniusWire.checksum FroniusRules.judged FroniusRules.frame FroniusRules.sized FroniusRules.sought Measured.thousandthsOf Reading.readingOf Reading.kindOf
 all-hold = ((refl, (refl, (refl, (refl, (refl, (refl, (refl, (refl, (refl, (refl, (refl, (refl, (refl, (refl, (refl, (refl, (refl, (refl, (refl, (refl, (refl, (refl, (refl, (refl, (refl, (refl, (refl, tt))))))))))))))))))))))))))), refl, refl)

@@ -15,7 +15,7 @@ use Rattle.comlynx_checksum.specs.Checksum.{sent, others, agrees}
 use Rattle.comlynx_checksum.proofs.SentAgrees.{only-these}
 use Rattle.stream.specs.Event.{message, damage}
 use Rattle.stream.proofs.BytesOfParts.{bytes-head, bytes-tail, bytes-take, bytes-drop}
-use Rattle.comlynx.specs.Wire.{Message, Takes, covered, body, messageOf, stuffed}
+use Rattle.comlynx.specs.Wire.{Message, Takes, covered, body, messageOf, stuffed, bodyMax, bodyLeast}
 use Rattle.comlynx.specs.Rules.{unstuffed, sized, begins, judged, judgedBody, judge}
 use Rattle.comlynx.specs.Demands.{Stretch, Sound}
 use Rattle.comlynx.proofs.JudgedIsDelivered.{both, sized-bounds}
@@ -43,9 +43,9 @@ eight (a ∷ b ∷ c ∷ d ∷ e ∷ f ∷ g ∷ h ∷ r) k = refl
 
 -- what a body that is judged a message has shown
 record Shown (u : List ℕ) (m : Message) : Type 0 where
-  fits : (10 ≤ length u) × (length u ≤ 265)
+  fits : (bodyLeast ≤ length u) × (length u ≤ bodyMax)
   starts : (getD u 0 0 ≡ 0xFF) × (getD u 1 0 ≡ 0x03)
-  size : getD u 6 0 ≡ length u - 10
+  size : getD u 6 0 ≡ length u - bodyLeast
   sum : agrees u ≡ true
   tells : messageOf u ≡ m
 
@@ -56,7 +56,7 @@ shows u m e =
     (λ t₀ e₀.
     in-test (λ a. a ≡ message m) (Shown u m) (begins u) _ (damage 4) e₀
     (λ t₁ e₁.
-    in-test (λ a. a ≡ message m) (Shown u m) (eqb (getD u 6 0) (length u - 10)) _ (damage 5) e₁
+    in-test (λ a. a ≡ message m) (Shown u m) (eqb (getD u 6 0) (length u - bodyLeast)) _ (damage 5) e₁
     (λ t₂ e₂.
     in-test (λ a. a ≡ message m) (Shown u m) (agrees u) (message (messageOf u)) (damage 6) e₂
     (λ t₃ e₃.
@@ -78,14 +78,14 @@ module _ (u : List ℕ) (m : Message) (p : T (areBytes u)) (s : Shown u m) where
   covered-is : others u ≡ covered (messageOf u)
   covered-is =
       let long = s .fits .0 in
-      let n : length u - 2 ≡ suc (suc (suc (suc (suc (suc (suc (suc (length u - 10)))))))) = omega arith in
+      let n : length u - 2 ≡ suc (suc (suc (suc (suc (suc (suc (suc (length u - bodyLeast)))))))) = omega arith in
       let f = s .starts .0 in
       let g = s .starts .1 in
       let a : getD u 2 0 ≡ (getD u 2 0 * 256 + getD u 3 0) / 256 = omega (arith, bytes-at u 3 p) in
       let b : getD u 3 0 ≡ (getD u 2 0 * 256 + getD u 3 0) % 256 = omega (arith, bytes-at u 3 p) in
       let c : getD u 4 0 ≡ (getD u 4 0 * 256 + getD u 5 0) / 256 = omega (arith, bytes-at u 5 p) in
       let d : getD u 5 0 ≡ (getD u 4 0 * 256 + getD u 5 0) % 256 = omega (arith, bytes-at u 5 p) in
-      let z : getD u 6 0 ≡ length (take (length u - 10) (drop 8 u)) = omega (arith, s .size, length-take (length u - 10) (drop 8 u), length-drop 8 u) in
+      let z : getD u 6 0 ≡ length (take (length u - bodyLeast) (drop 8 u)) = omega (arith, s .size, length-take (length u - bodyLeast) (drop 8 u), length-drop 8 u) in
       ap₂ take n (eight u (omega arith)) ∙ cc
 
   body-is : u ≡ body m
@@ -101,8 +101,8 @@ module _ (u : List ℕ) (m : Message) (p : T (areBytes u)) (s : Shown u m) where
         source = omega (arith, bytes-at u 2 p, bytes-at u 3 p);
         destination = omega (arith, bytes-at u 4 p, bytes-at u 5 p);
         kind = bytes-at u 7 p;
-        payload = bytes-take (length u - 10) (drop 8 u) (bytes-drop 8 u p);
-        fits = omega (arith, length-take (length u - 10) (drop 8 u), length-drop 8 u, s .fits .1);
+        payload = bytes-take (length u - bodyLeast) (drop 8 u) (bytes-drop 8 u p);
+        fits = omega (arith, length-take (length u - bodyLeast) (drop 8 u), length-drop 8 u, s .fits .1);
       }
 
   takes-it : Takes m

@@ -12,8 +12,8 @@ use native.Mathlib.Omega.{arith}
 use Rattle.numbers.proofs.Alike.{zero-is-one}
 use Rattle.stream.specs.Pieces.{scanFrom}
 use Rattle.stream.proofs.LoopScans.{from-goes}
-use Rattle.comlynx.specs.Wire.{flag, escape}
-use Rattle.comlynx.specs.Machine.{bodyMax, inside, next}
+use Rattle.comlynx.specs.Wire.{flag, escape, bodyMax}
+use Rattle.comlynx.specs.Machine.{inside, next}
 use Rattle.comlynx.specs.Inside.{Plain, AllPlain, Filled}
 use Rattle.comlynx.proofs.MachineMoves.{keeps}
 

@@ -17,7 +17,7 @@ use Rattle.comlynx_checksum.proofs.SentAgrees.{agrees-by-bytes, sent-low, sent-
 use Rattle.stream.proofs.ListLaws.{drop-take}
 use Rattle.stream.specs.Event.{message, damage, Told, done, gives, refuses}
 use Rattle.stream.specs.Call.{retold, delivered}
-use Rattle.comlynx.specs.Wire.{Message, messageOf}
+use Rattle.comlynx.specs.Wire.{Message, messageOf, bodyMax, bodyLeast}
 use Rattle.comlynx.specs.Rules.{sized, begins, judged}
 use Rattle.comlynx.specs.Machine.{closed}
 use Rattle.comlynx.specs.Reader.{told, header}
@@ -55,16 +55,16 @@ pub both : (s t : Bool) → s && t ≡ true → (s ≡ true) × (t ≡ true)
 both true t e = (refl, e)
 both false t e = false-true e
 
-pub sized-bounds : (n : ℕ) → sized n ≡ true → (10 ≤ n) × (n ≤ 265)
-sized-bounds n e = let t = both (leb 10 n) (leb n 265) e in (leb-true 10 n (t .0), leb-true n 265 (t .1))
+pub sized-bounds : (n : ℕ) → sized n ≡ true → (bodyLeast ≤ n) × (n ≤ bodyMax)
+sized-bounds n e = let t = both (leb bodyLeast n) (leb n bodyMax) e in (leb-true bodyLeast n (t .0), leb-true n bodyMax (t .1))
 
 -- ---- the first n held bytes as a body
 
-module _ (n : ℕ) (held : List ℕ) (full : length held ≡ 265) (fits : sized n ≡ true) where
-  least : 10 ≤ n
+module _ (n : ℕ) (held : List ℕ) (full : length held ≡ bodyMax) (fits : sized n ≡ true) where
+  least : bodyLeast ≤ n
   least = sized-bounds n fits .0
 
-  most : n ≤ 265
+  most : n ≤ bodyMax
   most = sized-bounds n fits .1
 
   taken : length (take n held) ≡ n
@@ -79,18 +79,18 @@ module _ (n : ℕ) (held : List ℕ) (full : length held ≡ 265) (fits : sized 
   size-taken : getD (take n held) 6 0 ≡ getD held 6 0
   size-taken = at-place 6 (omega (arith, least))
 
-  held-bytes : take (length (take n held) - 10) (drop 8 (take n held)) ≡ take (n - 10) (drop 8 held)
+  held-bytes : take (length (take n held) - bodyLeast) (drop 8 (take n held)) ≡ take (n - bodyLeast) (drop 8 held)
   held-bytes =
       let e : n ≡ 8 + (n - 8) = omega (arith, least) in
-      ap (λ (k : ℕ). take (k - 10) (drop 8 (take n held))) taken
-      ∙ ap (λ (k : ℕ). take (n - 10) (drop 8 (take k held))) e
-      ∙ ap (take (n - 10)) (drop-take 8 (n - 8) held)
-      ∙ take-take (n - 10) (n - 8) (drop 8 held) (omega (arith, least))
+      ap (λ (k : ℕ). take (k - bodyLeast) (drop 8 (take n held))) taken
+      ∙ ap (λ (k : ℕ). take (n - bodyLeast) (drop 8 (take k held))) e
+      ∙ ap (take (n - bodyLeast)) (drop-take 8 (n - 8) held)
+      ∙ take-take (n - bodyLeast) (n - 8) (drop 8 held) (omega (arith, least))
 
-  held-length : length (take (length (take n held) - 10) (drop 8 (take n held))) ≡ n - 10
-  held-length = ap length held-bytes ∙ length-take-le (n - 10) (drop 8 held) (simp length-drop (omega (arith, least, most)))
+  held-length : length (take (length (take n held) - bodyLeast) (drop 8 (take n held))) ≡ n - bodyLeast
+  held-length = ap length held-bytes ∙ length-take-le (n - bodyLeast) (drop 8 held) (simp length-drop (omega (arith, least, most)))
 
-  held-header : header (messageOf (take n held)) ≡ heldHeader (n - 10) held
+  held-header : header (messageOf (take n held)) ≡ heldHeader (n - bodyLeast) held
   held-header =
       rw (
         at-place 2 (omega (arith, least)),
@@ -109,7 +109,7 @@ module _ (n : ℕ) (held : List ℕ) (full : length held ≡ 265) (fits : sized 
       agrees-by-bytes (take n held) (n - 2) (omega (arith, taken, least))
       ∙ rw (same, ← sent-low sum d s, ← sent-high sum d s, at-place (n - 2) (omega (arith, least)), last, at-place (n - 1) (omega (arith, least)))
 
-module _ (n low high : ℕ) (held : List ℕ) (full : length held ≡ 265) where
+module _ (n low high : ℕ) (held : List ℕ) (full : length held ≡ bodyMax) where
   pub judged-length : sized n ≡ false → Judges n low high held (Damaged WrongBodyLength)
   unfolding judged
   judged-length e = rw e
@@ -120,22 +120,22 @@ module _ (n low high : ℕ) (held : List ℕ) (full : length held ≡ 265) where
     judged-start e = rw (fits, begins-taken n held full fits, e)
 
     module _ (starts : begins held ≡ true) where
-      pub judged-size : (getD held 6 0 ≡ n - 10 → ⊥) → Judges n low high held (Damaged WrongSize)
+      pub judged-size : (getD held 6 0 ≡ n - bodyLeast → ⊥) → Judges n low high held (Damaged WrongSize)
       unfolding judged
-      judged-size e = rw (fits, begins-taken n held full fits, starts, size-taken n held full fits, ne-eqb (getD held 6 0) (n - 10) e)
+      judged-size e = rw (fits, begins-taken n held full fits, starts, size-taken n held full fits, ne-eqb (getD held 6 0) (n - bodyLeast) e)
 
-      pub judged-sum : getD held 6 0 ≡ n - 10 → due n low high held ≡ false → Judges n low high held (Damaged WrongSum)
+      pub judged-sum : getD held 6 0 ≡ n - bodyLeast → due n low high held ≡ false → Judges n low high held (Damaged WrongSum)
       unfolding judged
-      judged-sum e d = rw (fits, begins-taken n held full fits, starts, size-taken n held full fits, eq-eqb (getD held 6 0) (n - 10) e, d)
+      judged-sum e d = rw (fits, begins-taken n held full fits, starts, size-taken n held full fits, eq-eqb (getD held 6 0) (n - bodyLeast) e, d)
 
-      pub judged-message : getD held 6 0 ≡ n - 10 → due n low high held ≡ true → Judges n low high held (Read (heldHeader (n - 10) held))
+      pub judged-message : getD held 6 0 ≡ n - bodyLeast → due n low high held ≡ true → Judges n low high held (Read (heldHeader (n - bodyLeast) held))
       unfolding judged
       judged-message e d =
-          rw (fits, begins-taken n held full fits, starts, size-taken n held full fits, eq-eqb (getD held 6 0) (n - 10) e, d)
+          rw (fits, begins-taken n held full fits, starts, size-taken n held full fits, eq-eqb (getD held 6 0) (n - bodyLeast) e, d)
           (ap (λ (h : Header). gives (message h)) (sym (held-header n held full fits)))
 
 -- a stretch that closes, judged by what is due
-pub closes : (n sum : ℕ) (held : List ℕ) (d : Sent) → length held ≡ 265 → sum ≡ checksumOf (take (n - 2) held) → IsSentOf sum d
+pub closes : (n sum : ℕ) (held : List ℕ) (d : Sent) → length held ≡ bodyMax → sum ≡ checksumOf (take (n - 2) held) → IsSentOf sum d
     → closed n held ≡ judged n (due n (d .low) (d .high) held) (take n held)
 unfolding judged
 closes n sum held d full e s = go (sized n) refl
@@ -146,10 +146,10 @@ closes n sum held d full e s = go (sized n) refl
 
 -- ---- what is told of a stretch, delivered
 
-pub delivers : (n : ℕ) (right : Bool) (held lent : List ℕ) (a : Answer) → length held ≡ 265 → JudgedAs (judged n right (take n held)) a
+pub delivers : (n : ℕ) (right : Bool) (held lent : List ℕ) (a : Answer) → length held ≡ bodyMax → JudgedAs (judged n right (take n held)) a
     → Small a × (given a held lent ≡ delivered (λ (m : Message). m .payload) (gives (judged n right (take n held))) lent)
 unfolding judged
-delivers n right held lent a full e = go (sized n) (begins (take n held)) (eqb (getD (take n held) 6 0) (n - 10)) right refl e
+delivers n right held lent a full e = go (sized n) (begins (take n held)) (eqb (getD (take n held) 6 0) (n - bodyLeast)) right refl e
   where
     m : Message
     m = messageOf (take n held)
@@ -162,8 +162,8 @@ delivers n right held lent a full e = go (sized n) (begins (take n held)) (eqb (
     go true true false r f e = rw (told-alike a (Damaged WrongSize) e) (tt, refl)
     go true true true false f e = rw (told-alike a (Damaged WrongSum) e) (tt, refl)
     go true true true true f e =
-        let count : length (m .payload) ≡ n - 10 = held-length n held full f in
-        let payload : m .payload ≡ take (n - 10) (drop 8 held) = held-bytes n held full f in
+        let count : length (m .payload) ≡ n - bodyLeast = held-length n held full f in
+        let payload : m .payload ≡ take (n - bodyLeast) (drop 8 held) = held-bytes n held full f in
         let is : a ≡ Read (header m) = told-alike a (Read (header m)) e in
         rw is (
           omega (arith, count, sized-bounds n f .1),

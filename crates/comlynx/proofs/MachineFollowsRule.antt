@@ -19,9 +19,9 @@ use Rattle.stream.specs.Event.{Event, damage}
 use Rattle.stream.specs.Rule.{Settled}
 use Rattle.stream.proofs.FamilyFacts.{Follows}
 use Rattle.stream.proofs.FollowsByBytes.{Finds, finds-end, finds-goes, finds-tells, follows-by}
-use Rattle.comlynx.specs.Wire.{Message, flag, escape}
+use Rattle.comlynx.specs.Wire.{Message, flag, escape, bodyMax, flagPair, escapePair, bodyLeast}
 use Rattle.comlynx.specs.Rules.{withFirst, unstuffed, sized, judged, judgedBody, judge, within, before, rule}
-use Rattle.comlynx.specs.Machine.{bodyMax, tooMany, waiting, inside, escaped, broken, fresh, on, tells, closed, next}
+use Rattle.comlynx.specs.Machine.{tooMany, waiting, inside, escaped, broken, fresh, on, tells, closed, next}
 use Rattle.comlynx.specs.declared.reader.Reader.{Reader}
 use Rattle.comlynx.proofs.MachineMoves.{flag-first, flag-empty, flag-closes, flag-after-escape, flag-breaks, waits, marks, keeps, overflows, pair-flag, pair-flag-over, pair-escape, pair-escape-over, spoils, stays-broken}
 use Rattle.comlynx.proofs.UnstuffingUndoes.{by-test}
@@ -73,8 +73,8 @@ holds-full c h u b k r =
           ∙ sym (take-append-le bodyMax u (b ∷ []) (omega (arith, r .counted)));
     }
 
-too-long : (n : ℕ) → 265 < n → sized n ≡ false
-too-long n k = rw (le-leb 10 n (omega arith), lt-leb n 265 k)
+too-long : (n : ℕ) → bodyMax < n → sized n ≡ false
+too-long n k = rw (le-leb bodyLeast n (omega arith), lt-leb n bodyMax k)
 
 -- so what is held is judged as the whole
 holds-closed : (c : ℕ) (h u : List ℕ) → Holds c h u → closed c h ≡ judged (length u) (agrees u) u
@@ -213,16 +213,16 @@ on-byte bs ih clear c h u came t at b n = go (eqb b escape) refl
     go false e =
         let no = eqb-false b escape e in
         one-more bs ih clear c h u came t at b b (keeps c h b n no) (overflows c h b n no) (λ rest. rw e)
-on-byte bs ih half c h u came t at b n = go (eqb b 0x5E) (eqb b 0x5D) refl refl
+on-byte bs ih half c h u came t at b n = go (eqb b flagPair) (eqb b escapePair) refl refl
   where
-    go : (q r : Bool) → eqb b 0x5E ≡ q → eqb b 0x5D ≡ r → Agrees at (within (at + 1) (came ++ b ∷ []) bs) (escaped c h) (b ∷ bs)
+    go : (q r : Bool) → eqb b flagPair ≡ q → eqb b escapePair ≡ r → Agrees at (within (at + 1) (came ++ b ∷ []) bs) (escaped c h) (b ∷ bs)
     go true r e f =
-        let is : b ≡ 0x5E = eqb-true b 0x5E e in
-        rw is (one-more bs ih half c h u came t at 0x5E flag (pair-flag c h) (pair-flag-over c h) (λ rest. refl))
+        let is : b ≡ flagPair = eqb-true b flagPair e in
+        rw is (one-more bs ih half c h u came t at flagPair flag (pair-flag c h) (pair-flag-over c h) (λ rest. refl))
     go false true e f =
-        let is : b ≡ 0x5D = eqb-true b 0x5D f in
-        rw is (one-more bs ih half c h u came t at 0x5D escape (pair-escape c h) (pair-escape-over c h) (λ rest. refl))
-    go false false e f = turns bs ih half bad c h u came t at b (spoils c h b n (eqb-false b 0x5E e) (eqb-false b 0x5D f)) refl (λ rest. rw (e, f))
+        let is : b ≡ escapePair = eqb-true b escapePair f in
+        rw is (one-more bs ih half c h u came t at escapePair escape (pair-escape c h) (pair-escape-over c h) (λ rest. refl))
+    go false false e f = turns bs ih half bad c h u came t at b (spoils c h b n (eqb-false b flagPair e) (eqb-false b escapePair f)) refl (λ rest. rw (e, f))
 on-byte bs ih bad c h u came t at b n = turns bs ih bad bad c h u came t at b (stays-broken c h b n) refl (λ rest. refl)
 
 -- ---- a stretch, and what stands before the first flag

@@ -6,8 +6,8 @@ use mathlib.Core.List.{List}
 use lib.ListN.{set}
 use borrow.Author.Tests.{lt-ltb, le-ltb, ne-eqb}
 use Rattle.stream.specs.Event.{damage}
-use Rattle.comlynx.specs.Wire.{flag, escape}
-use Rattle.comlynx.specs.Machine.{bodyMax, tooMany, waiting, inside, escaped, broken, keepOf, advanceOf, on, tells, closed, moved, next}
+use Rattle.comlynx.specs.Wire.{flag, escape, bodyMax, flagPair, escapePair}
+use Rattle.comlynx.specs.Machine.{tooMany, waiting, inside, escaped, broken, keepOf, advanceOf, on, tells, closed, moved, next}
 
 -- ---- a flag
 
@@ -49,25 +49,25 @@ pub overflows : (c : ℕ) (h : List ℕ) (b : ℕ) → (b ≡ flag → ⊥) → 
 unfolding next advanceOf keepOf moved
 overflows c h b n m le = rw (ne-eqb b flag n, ne-eqb b escape m, le-ltb c bodyMax le)
 
-pub pair-flag : (c : ℕ) (h : List ℕ) → c < bodyMax → next (escaped c h) 0x5E ≡ on (inside (c + 1) (set h c flag))
+pub pair-flag : (c : ℕ) (h : List ℕ) → c < bodyMax → next (escaped c h) flagPair ≡ on (inside (c + 1) (set h c flag))
 unfolding next advanceOf keepOf moved
 pair-flag c h lt = rw (lt-ltb c bodyMax lt)
 
-pub pair-flag-over : (c : ℕ) (h : List ℕ) → bodyMax ≤ c → next (escaped c h) 0x5E ≡ on (inside tooMany h)
+pub pair-flag-over : (c : ℕ) (h : List ℕ) → bodyMax ≤ c → next (escaped c h) flagPair ≡ on (inside tooMany h)
 unfolding next advanceOf keepOf moved
 pair-flag-over c h le = rw (le-ltb c bodyMax le)
 
-pub pair-escape : (c : ℕ) (h : List ℕ) → c < bodyMax → next (escaped c h) 0x5D ≡ on (inside (c + 1) (set h c escape))
+pub pair-escape : (c : ℕ) (h : List ℕ) → c < bodyMax → next (escaped c h) escapePair ≡ on (inside (c + 1) (set h c escape))
 unfolding next advanceOf keepOf moved
 pair-escape c h lt = rw (lt-ltb c bodyMax lt)
 
-pub pair-escape-over : (c : ℕ) (h : List ℕ) → bodyMax ≤ c → next (escaped c h) 0x5D ≡ on (inside tooMany h)
+pub pair-escape-over : (c : ℕ) (h : List ℕ) → bodyMax ≤ c → next (escaped c h) escapePair ≡ on (inside tooMany h)
 unfolding next advanceOf keepOf moved
 pair-escape-over c h le = rw (le-ltb c bodyMax le)
 
-pub spoils : (c : ℕ) (h : List ℕ) (b : ℕ) → (b ≡ flag → ⊥) → (b ≡ 0x5E → ⊥) → (b ≡ 0x5D → ⊥) → next (escaped c h) b ≡ on (broken c h)
+pub spoils : (c : ℕ) (h : List ℕ) (b : ℕ) → (b ≡ flag → ⊥) → (b ≡ flagPair → ⊥) → (b ≡ escapePair → ⊥) → next (escaped c h) b ≡ on (broken c h)
 unfolding next advanceOf moved
-spoils c h b n m k = rw (ne-eqb b flag n, ne-eqb b 0x5E m, ne-eqb b 0x5D k)
+spoils c h b n m k = rw (ne-eqb b flag n, ne-eqb b flagPair m, ne-eqb b escapePair k)
 
 pub stays-broken : (c : ℕ) (h : List ℕ) (b : ℕ) → (b ≡ flag → ⊥) → next (broken c h) b ≡ on (broken c h)
 unfolding next advanceOf moved

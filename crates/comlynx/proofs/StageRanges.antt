@@ -7,9 +7,9 @@ use lib.Dec.{eqb, ltb, leb}
 use borrow.Author.Tests.{le-leb, eq-eqb, ne-eqb, ltb-true, leb-true, eqb-true, eqb-false}
 use native.Mathlib.Omega.{arith}
 use Rattle.numbers.proofs.Alike.{zero-is-one}
-use Rattle.comlynx.specs.Wire.{flag, escape}
+use Rattle.comlynx.specs.Wire.{flag, escape, bodyMax, flagPair, escapePair}
 use Rattle.comlynx.specs.Machine as Machine
-use Rattle.comlynx.specs.Machine.{bodyMax, tooMany, keepOf, advanceOf}
+use Rattle.comlynx.specs.Machine.{tooMany, keepOf, advanceOf}
 use Rattle.comlynx.specs.declared.reader.Move.{Move}
 use Rattle.comlynx.specs.declared.reader.Move.the-variants.{Skip, Open, Mark, Spoil, Keep, Over, Close, Fail}
 
@@ -71,5 +71,5 @@ asked stage n b =
     (by-cond n (eqb stage 1) _ _
     (by-cond n (eqb b flag) _ _ (by-cond n (eqb n 0) Skip Close tt tt) (by-cond n (eqb b escape) Mark _ tt (keep-asked n b)))
     (by-cond n (eqb stage 2) _ _
-    (by-cond n (eqb b flag) Fail _ tt (by-cond n (eqb b 0x5E) _ _ (keep-asked n flag) (by-cond n (eqb b 0x5D) _ Spoil (keep-asked n escape) tt)))
+    (by-cond n (eqb b flag) Fail _ tt (by-cond n (eqb b flagPair) _ _ (keep-asked n flag) (by-cond n (eqb b escapePair) _ Spoil (keep-asked n escape) tt)))
     (by-cond n (eqb b flag) Fail Skip tt tt)))

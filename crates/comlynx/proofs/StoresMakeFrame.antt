@@ -12,7 +12,7 @@ use native.Mathlib.Numerals.{add-one}
 use native.Mathlib.Omega.{arith}
 use Rattle.numbers.proofs.Alike.{zero-is-one}
 use Rattle.stream.proofs.ListLaws.{sets-append}
-use Rattle.comlynx.specs.Wire.{flag, escape, stuffed}
+use Rattle.comlynx.specs.Wire.{flag, escape, stuffed, flagPair, escapePair}
 use Rattle.comlynx.specs.Inside.{Stuffs, framed}
 use Rattle.comlynx.proofs.UnstuffingUndoes.{stuffed-length, special-most}
 
@@ -21,10 +21,10 @@ stored-length bs at l r k (e, f) = ap length f ∙ length-sets l at (stuffed bs)
 
 -- ---- one byte
 
-pub stuffed-flag : (b : ℕ) → b ≡ flag → stuffed (b ∷ []) ≡ escape ∷ 0x5E ∷ []
+pub stuffed-flag : (b : ℕ) → b ≡ flag → stuffed (b ∷ []) ≡ escape ∷ flagPair ∷ []
 stuffed-flag b e = rw (eq-eqb b flag e)
 
-pub stuffed-escape : (b : ℕ) → b ≡ escape → stuffed (b ∷ []) ≡ escape ∷ 0x5D ∷ []
+pub stuffed-escape : (b : ℕ) → b ≡ escape → stuffed (b ∷ []) ≡ escape ∷ escapePair ∷ []
 stuffed-escape b e = rw (ne-eqb b flag (λ q. omega arith), eq-eqb b escape e)
 
 pub stuffed-plain : (b : ℕ) → (b ≡ flag → ⊥) → (b ≡ escape → ⊥) → stuffed (b ∷ []) ≡ b ∷ []
@@ -33,7 +33,7 @@ stuffed-plain b n m = rw (ne-eqb b flag n, ne-eqb b escape m)
 pub width-two : (b : ℕ) → eqb b flag || eqb b escape ≡ true → 2 ≡ length (stuffed (b ∷ []))
 width-two b e = go (eqb b flag) (eqb b escape) e
   where
-    go : (t u : Bool) → t || u ≡ true → 2 ≡ length (cond t (escape ∷ 0x5E ∷ []) (cond u (escape ∷ 0x5D ∷ []) (b ∷ [])))
+    go : (t u : Bool) → t || u ≡ true → 2 ≡ length (cond t (escape ∷ flagPair ∷ []) (cond u (escape ∷ escapePair ∷ []) (b ∷ [])))
     go true u e = refl
     go false true e = refl
     go false false e = zero-is-one cc
@@ -41,7 +41,7 @@ width-two b e = go (eqb b flag) (eqb b escape) e
 pub width-one : (b : ℕ) → eqb b flag || eqb b escape ≡ false → 1 ≡ length (stuffed (b ∷ []))
 width-one b e = go (eqb b flag) (eqb b escape) e
   where
-    go : (t u : Bool) → t || u ≡ false → 1 ≡ length (cond t (escape ∷ 0x5E ∷ []) (cond u (escape ∷ 0x5D ∷ []) (b ∷ [])))
+    go : (t u : Bool) → t || u ≡ false → 1 ≡ length (cond t (escape ∷ flagPair ∷ []) (cond u (escape ∷ escapePair ∷ []) (b ∷ [])))
     go true u e = zero-is-one cc
     go false true e = zero-is-one cc
     go false false e = refl
@@ -57,7 +57,7 @@ put-plain b at l e = rw e (refl, refl)
 stuffed-cons : (b : ℕ) (s : List ℕ) → stuffed (b ∷ s) ≡ stuffed (b ∷ []) ++ stuffed s
 stuffed-cons b s = go (eqb b flag) (eqb b escape)
   where
-    go : (t u : Bool) → cond t (escape ∷ 0x5E ∷ stuffed s) (cond u (escape ∷ 0x5D ∷ stuffed s) (b ∷ stuffed s)) ≡ cond t (escape ∷ 0x5E ∷ []) (cond u (escape ∷ 0x5D ∷ []) (b ∷ [])) ++ stuffed s
+    go : (t u : Bool) → cond t (escape ∷ flagPair ∷ stuffed s) (cond u (escape ∷ escapePair ∷ stuffed s) (b ∷ stuffed s)) ≡ cond t (escape ∷ flagPair ∷ []) (cond u (escape ∷ escapePair ∷ []) (b ∷ [])) ++ stuffed s
     go true u = refl
     go false true = refl
     go false false = refl

@@ -12,7 +12,7 @@ use borrow.Author.Tests.{eqb-true, eqb-false, ne-eqb}
 use native.Mathlib.Omega.{arith}
 use Rattle.numbers.proofs.Alike.{zero-is-one}
 use Rattle.stream.proofs.BytesOfParts.{bytes-cons, bytes-head, bytes-tail}
-use Rattle.comlynx.specs.Wire.{flag, escape, stuffed}
+use Rattle.comlynx.specs.Wire.{flag, escape, stuffed, flagPair, escapePair}
 use Rattle.comlynx.specs.Rules.{withFirst, unstuffed}
 use Rattle.comlynx.specs.Demands.{Stretch, special}
 
@@ -49,7 +49,7 @@ stuffed-length [] = refl
 stuffed-length (b ∷ s) = go (eqb b flag) (eqb b escape) (stuffed-length s)
   where
     go : (t u : Bool) → length (stuffed s) ≡ length s + special s
-        → length (cond t (escape ∷ 0x5E ∷ stuffed s) (cond u (escape ∷ 0x5D ∷ stuffed s) (b ∷ stuffed s))) ≡ suc (length s) + (cond (t || u) 1 0 + special s)
+        → length (cond t (escape ∷ flagPair ∷ stuffed s) (cond u (escape ∷ escapePair ∷ stuffed s) (b ∷ stuffed s))) ≡ suc (length s) + (cond (t || u) 1 0 + special s)
     go true u h = omega arith
     go false true h = omega arith
     go false false h = omega arith
@@ -69,18 +69,18 @@ bytes-stuffed [] p = tt
 bytes-stuffed (b ∷ s) p =
     let rest = bytes-stuffed s (bytes-tail b s p) in
     let pair : (c : ℕ) → c < 256 → T (areBytes (escape ∷ c ∷ stuffed s)) = λ c h. bytes-cons escape (c ∷ stuffed s) (omega arith) (bytes-cons c (stuffed s) h rest) in
-    by-test (λ l. T (areBytes l)) (eqb b flag) (λ e. pair 0x5E (omega arith))
-    (λ e. by-test (λ l. T (areBytes l)) (eqb b escape) (λ f. pair 0x5D (omega arith)) (λ f. bytes-cons b (stuffed s) (bytes-head b s p) rest))
+    by-test (λ l. T (areBytes l)) (eqb b flag) (λ e. pair flagPair (omega arith))
+    (λ e. by-test (λ l. T (areBytes l)) (eqb b escape) (λ f. pair escapePair (omega arith)) (λ f. bytes-cons b (stuffed s) (bytes-head b s p) rest))
 
 pub bytes-unstuffed : (s : List ℕ) → T (areBytes (stuffed s)) → T (areBytes s)
 bytes-unstuffed [] p = tt
 bytes-unstuffed (b ∷ s) p =
     let rest : (c : ℕ) → T (areBytes (escape ∷ c ∷ stuffed s)) → T (areBytes s) = λ c q. bytes-unstuffed s (bytes-tail c (stuffed s) (bytes-tail escape (c ∷ stuffed s) q)) in
-    in-test (λ l. T (areBytes l)) (T (areBytes (b ∷ s))) (eqb b flag) (escape ∷ 0x5E ∷ stuffed s) _ p
-    (λ e q. let z : b ≡ flag = eqb-true b flag e in bytes-cons b s (omega arith) (rest 0x5E q))
+    in-test (λ l. T (areBytes l)) (T (areBytes (b ∷ s))) (eqb b flag) (escape ∷ flagPair ∷ stuffed s) _ p
+    (λ e q. let z : b ≡ flag = eqb-true b flag e in bytes-cons b s (omega arith) (rest flagPair q))
     (λ e q.
-    in-test (λ l. T (areBytes l)) (T (areBytes (b ∷ s))) (eqb b escape) (escape ∷ 0x5D ∷ stuffed s) (b ∷ stuffed s) q
-    (λ f r. let z : b ≡ escape = eqb-true b escape f in bytes-cons b s (omega arith) (rest 0x5D r))
+    in-test (λ l. T (areBytes l)) (T (areBytes (b ∷ s))) (eqb b escape) (escape ∷ escapePair ∷ stuffed s) (b ∷ stuffed s) q
+    (λ f r. let z : b ≡ escape = eqb-true b escape f in bytes-cons b s (omega arith) (rest escapePair r))
     (λ f r. bytes-cons b s (bytes-head b (stuffed s) r) (bytes-unstuffed s (bytes-tail b (stuffed s) r))))
 
 -- ---- a stretch that stands for u is u stuffed, and nothing else
@@ -106,16 +106,16 @@ stands (b ∷ s) false u k e =
     let (v, p, q) = front-inv b (unstuffed false s) u h in
     plain b s v (ne-eqb b flag (k .0)) f (stands s false v (k .1) p) ∙ ap stuffed (sym q))
 stands (b ∷ s) true u k e =
-    in-test (λ o. o ≡ some u) (escape ∷ b ∷ s ≡ stuffed u) (eqb b 0x5E) (withFirst flag (unstuffed false s))
-    (cond (eqb b 0x5D) (withFirst escape (unstuffed false s)) none) e
+    in-test (λ o. o ≡ some u) (escape ∷ b ∷ s ≡ stuffed u) (eqb b flagPair) (withFirst flag (unstuffed false s))
+    (cond (eqb b escapePair) (withFirst escape (unstuffed false s)) none) e
     (λ f h.
     let (v, p, q) = front-inv flag (unstuffed false s) u h in
-    ap₂ (λ (x : ℕ) (l : List ℕ). escape ∷ x ∷ l) (eqb-true b 0x5E f) (stands s false v (k .1) p) ∙ ap stuffed (sym q))
+    ap₂ (λ (x : ℕ) (l : List ℕ). escape ∷ x ∷ l) (eqb-true b flagPair f) (stands s false v (k .1) p) ∙ ap stuffed (sym q))
     (λ f h.
-    in-test (λ o. o ≡ some u) (escape ∷ b ∷ s ≡ stuffed u) (eqb b 0x5D) (withFirst escape (unstuffed false s)) none h
+    in-test (λ o. o ≡ some u) (escape ∷ b ∷ s ≡ stuffed u) (eqb b escapePair) (withFirst escape (unstuffed false s)) none h
     (λ g i.
     let (v, p, q) = front-inv escape (unstuffed false s) u i in
-    ap₂ (λ (x : ℕ) (l : List ℕ). escape ∷ x ∷ l) (eqb-true b 0x5D g) (stands s false v (k .1) p) ∙ ap stuffed (sym q))
+    ap₂ (λ (x : ℕ) (l : List ℕ). escape ∷ x ∷ l) (eqb-true b escapePair g) (stands s false v (k .1) p) ∙ ap stuffed (sym q))
     (λ g i. zero-is-one cc))
 
 pub stands-for : (s u : List ℕ) → Stretch s → unstuffed false s ≡ some u → s ≡ stuffed u

@@ -16,7 +16,7 @@ use Rattle.comlynx_checksum.proofs.SentAgrees.{passes, bounds}
 use Rattle.stream.specs.Event.{Event, message}
 use Rattle.stream.specs.Rule.{Settled}
 use Rattle.stream.proofs.BytesOfParts.{bytes-cons, bytes-append}
-use Rattle.comlynx.specs.Wire.{Message, Takes, covered, body, messageOf, flag, stuffed, wire}
+use Rattle.comlynx.specs.Wire.{Message, Takes, covered, body, messageOf, flag, stuffed, wire, payloadMax, bodyMax, bodyLeast}
 use Rattle.comlynx.specs.Rules.{sized, begins, judged, judgedBody, judge, within, before, rule}
 use Rattle.comlynx.specs.Demands.{Stretch, ShownOnce, special, Room}
 use Rattle.comlynx.proofs.UnstuffingUndoes.{unstuffed-stuffed, stuffed-stretch, stuffed-length, special-most, bytes-stuffed}
@@ -52,7 +52,7 @@ shown-once true w rest k h = opened w rest k h
 
 -- ---- a body
 
-pub body-length : (m : Message) → length (body m) ≡ 10 + length (m .payload)
+pub body-length : (m : Message) → length (body m) ≡ bodyLeast + length (m .payload)
 unfolding body sent sentAfter
 body-length m = simp length-append (omega arith)
 
@@ -61,7 +61,7 @@ module _ (m : Message) where
   unfolding body
   body-starts = refl
 
-  body-size : getD (body m) 6 0 ≡ length (body m) - 10
+  body-size : getD (body m) 6 0 ≡ length (body m) - bodyLeast
   unfolding body
   body-size = omega (arith, body-length m)
 
@@ -69,9 +69,9 @@ module _ (m : Message) where
   unfolding body
   body-agrees = passes (covered m)
 
-  body-data : take (length (body m) - 10) (drop 8 (body m)) ≡ m .payload
+  body-data : take (length (body m) - bodyLeast) (drop 8 (body m)) ≡ m .payload
   body-data =
-      let n : length (body m) - 10 ≡ length (m .payload) = omega (arith, body-length m) in
+      let n : length (body m) - bodyLeast ≡ length (m .payload) = omega (arith, body-length m) in
       rw n (unfold body in take-append-seam (m .payload) _)
 
   body-source : getD (body m) 2 0 * 256 + getD (body m) 3 0 ≡ m .source
@@ -89,13 +89,13 @@ module _ (m : Message) where
   body-message : messageOf (body m) ≡ m
   body-message i = record { source = body-source i; destination = body-destination i; kind = body-kind i; payload = body-data i }
 
-  body-judged : length (m .payload) ≤ 255 → judged (length (body m)) (agrees (body m)) (body m) ≡ message m
+  body-judged : length (m .payload) ≤ payloadMax → judged (length (body m)) (agrees (body m)) (body m) ≡ message m
   unfolding judged
   body-judged h =
-      let fits : sized (length (body m)) ≡ true = rw (le-leb 10 (length (body m)) (omega (arith, body-length m)), le-leb (length (body m)) 265 (omega (arith, body-length m))) in
-      rw (fits, body-starts, eq-eqb (getD (body m) 6 0) (length (body m) - 10) body-size, body-agrees) (ap message body-message)
+      let fits : sized (length (body m)) ≡ true = rw (le-leb bodyLeast (length (body m)) (omega (arith, body-length m)), le-leb (length (body m)) bodyMax (omega (arith, body-length m))) in
+      rw (fits, body-starts, eq-eqb (getD (body m) 6 0) (length (body m) - bodyLeast) body-size, body-agrees) (ap message body-message)
 
-  pub judge-body : length (m .payload) ≤ 255 → judge (stuffed (body m)) ≡ message m
+  pub judge-body : length (m .payload) ≤ payloadMax → judge (stuffed (body m)) ≡ message m
   unfolding judge
   judge-body h = ap judgedBody (unstuffed-stuffed (body m)) ∙ body-judged h
 
@@ -104,7 +104,7 @@ module _ (m : Message) where
   pub wire-length : length (wire m) ≡ 12 + length (m .payload) + special (body m)
   wire-length = omega (arith, length-append (stuffed (body m)) (flag ∷ []), stuffed-length (body m), body-length m)
 
-  pub reads : (known : Bool) → length (m .payload) ≤ 255 → rule known (wire m) ≡ some (record { event = message m; used = length (wire m) })
+  pub reads : (known : Bool) → length (m .payload) ≤ payloadMax → rule known (wire m) ≡ some (record { event = message m; used = length (wire m) })
   reads known h =
       let n : length (stuffed (body m)) + 2 ≡ length (wire m) = omega (arith, length-append (stuffed (body m)) (flag ∷ [])) in
       shown-once known (stuffed (body m)) [] (stuffed-stretch (body m)) (omega (arith, stuffed-length (body m), body-length m))

@@ -11,9 +11,9 @@ use Rattle.stream.specs.Event.{Event, damage}
 use Rattle.stream.specs.Event as Event
 use Rattle.stream.specs.Call.{retold}
 use Rattle.stream.specs.Pieces.{scan, scanFrom}
-use Rattle.comlynx.specs.Wire.{Message, payloadMax, flag, escape, stuffed}
+use Rattle.comlynx.specs.Wire.{Message, payloadMax, flag, escape, stuffed, bodyMax}
 use Rattle.comlynx.specs.Rules.{judged}
-use Rattle.comlynx.specs.Machine.{bodyMax, inside, inRange, closed, next}
+use Rattle.comlynx.specs.Machine.{inside, inRange, closed, next}
 use Rattle.comlynx.specs.Reader.{told, header}
 use Rattle.comlynx.specs.declared.reader.Answer.{Answer}
 use Rattle.comlynx.specs.declared.reader.Answer.the-variants.{Done, Message as Read, Damaged, Refused}

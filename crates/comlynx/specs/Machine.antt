@@ -8,18 +8,15 @@ use lib.Dec.{eqb, ltb, leb}
 use Rattle.comlynx_checksum.specs.Checksum.{agrees}
 use Rattle.stream.specs.Event.{Event, damage}
 use Rattle.stream.specs.Pieces.{Moved}
-use Rattle.comlynx.specs.Wire.{Message, flag, escape}
+use Rattle.comlynx.specs.Wire.{Message, bodyMax, flag, escape, flagPair, escapePair}
 use Rattle.comlynx.specs.Rules.{judged}
 use Rattle.comlynx.specs.declared.reader.Reader.{Reader}
 use Rattle.comlynx.specs.declared.reader.Move.{Move}
 use Rattle.comlynx.specs.declared.reader.Move.the-variants.{Skip, Open, Mark, Spoil, Keep, Over, Close, Fail}
 
--- the bytes that a reader holds, and the count that means one too many
-abbrev pub bodyMax : ℕ
-bodyMax = 265
-
+-- a reader holds as many bytes as a body may have; this count means that there were more
 abbrev pub tooMany : ℕ
-tooMany = 266
+tooMany = bodyMax + 1
 
 -- stage 0: before the first flag
 abbrev pub waiting : List ℕ → Reader
@@ -54,7 +51,7 @@ advanceOf stage count b =
     (cond (eqb stage 1)
     (cond (eqb b flag) (cond (eqb count 0) Skip Close) (cond (eqb b escape) Mark (keepOf count b)))
     (cond (eqb stage 2)
-    (cond (eqb b flag) Fail (cond (eqb b 0x5E) (keepOf count flag) (cond (eqb b 0x5D) (keepOf count escape) Spoil)))
+    (cond (eqb b flag) Fail (cond (eqb b flagPair) (keepOf count flag) (cond (eqb b escapePair) (keepOf count escape) Spoil)))
     (cond (eqb b flag) Fail Skip)))
 
 -- and what it does: what is left over in `held` stays there; the flag that settles an event opens the next stretch

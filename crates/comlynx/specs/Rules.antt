@@ -6,10 +6,11 @@ use mathlib.Core.Option.{Option, none, some}
 use mathlib.Core.List.{List, [], _∷_, _++_}
 use lib.ListN.{length, getD}
 use lib.Dec.{eqb, leb}
+use Rattle.answers.specs.Answer.{need}
 use Rattle.comlynx_checksum.specs.Checksum.{agrees}
 use Rattle.stream.specs.Event.{Event, message, damage}
 use Rattle.stream.specs.Rule.{Settled}
-use Rattle.comlynx.specs.Wire.{Message, messageOf, flag, escape}
+use Rattle.comlynx.specs.Wire.{Message, bodyLeast, bodyMax, messageOf, flag, escape, flagPair, escapePair}
 
 -- ---- one whole stretch, the bytes between two successive flags
 
@@ -25,12 +26,12 @@ unstuffed false [] = some []
 unstuffed true [] = none
 unstuffed false (b ∷ bs) = cond (eqb b escape) (unstuffed true bs) (withFirst b (unstuffed false bs))
 unstuffed true (b ∷ bs) =
-    cond (eqb b 0x5E) (withFirst flag (unstuffed false bs))
-    (cond (eqb b 0x5D) (withFirst escape (unstuffed false bs)) none)
+    cond (eqb b flagPair) (withFirst flag (unstuffed false bs))
+    (cond (eqb b escapePair) (withFirst escape (unstuffed false bs)) none)
 
 -- it has 10 to 265 bytes
 abbrev pub sized : ℕ → Bool
-sized n = leb 10 n && leb n 265
+sized n = leb bodyLeast n && leb n bodyMax
 
 -- it begins FF 03
 abbrev pub begins : List ℕ → Bool
@@ -40,9 +41,11 @@ begins bs = eqb (getD bs 0 0) 0xFF && eqb (getD bs 1 0) 0x03
 -- size equals its length less 10, else 5; the checksum agrees, else 6
 unfoldable pub judged : ℕ → Bool → List ℕ → Event Message
 judged n right bs =
-    cond (sized n)
-    (cond (begins bs) (cond (eqb (getD bs 6 0) (n - 10)) (cond right (message (messageOf bs)) (damage 6)) (damage 5)) (damage 4))
-    (damage 3)
+    need (sized n) (damage 3)
+    (need (begins bs) (damage 4)
+    (need (eqb (getD bs 6 0) (n - bodyLeast)) (damage 5)
+    (need right (damage 6)
+    (message (messageOf bs)))))
 
 -- before all these: every 7D is followed inside the stretch by 5E or 5D, else 2
 abbrev pub judgedBody : Option (List ℕ) → Event Message

@@ -25,6 +25,13 @@ pub record Takes (m : Message) : Type 0 where
   pub payload : T (areBytes (m .payload))
   pub fits : length (m .payload) ≤ payloadMax
 
+-- size counts the data, so a body has 10 to 265 bytes
+abbrev pub bodyLeast : ℕ
+bodyLeast = 10
+
+abbrev pub bodyMax : ℕ
+bodyMax = bodyLeast + payloadMax
+
 -- ---- the body: FF 03, source high byte first, destination likewise, size, type, data, checksum low byte first
 
 -- all that stands before the data; size counts the data
@@ -46,7 +53,7 @@ messageOf bs =
       source = getD bs 2 0 * 256 + getD bs 3 0;
       destination = getD bs 4 0 * 256 + getD bs 5 0;
       kind = getD bs 7 0;
-      payload = take (length bs - 10) (drop 8 bs);
+      payload = take (length bs - bodyLeast) (drop 8 bs);
     }
 
 -- ---- stuffing: 7E becomes 7D 5E, 7D becomes 7D 5D, nothing else changes
@@ -57,11 +64,17 @@ flag = 0x7E
 abbrev pub escape : ℕ
 escape = 0x7D
 
+abbrev pub flagPair : ℕ
+flagPair = 0x5E
+
+abbrev pub escapePair : ℕ
+escapePair = 0x5D
+
 abbrev pub stuffed : List ℕ → List ℕ
 stuffed [] = []
 stuffed (b ∷ bs) =
-    cond (eqb b flag) (escape ∷ 0x5E ∷ stuffed bs)
-    (cond (eqb b escape) (escape ∷ 0x5D ∷ stuffed bs) (b ∷ stuffed bs))
+    cond (eqb b flag) (escape ∷ flagPair ∷ stuffed bs)
+    (cond (eqb b escape) (escape ∷ escapePair ∷ stuffed bs) (b ∷ stuffed bs))
 
 -- ---- a frame
 

@@ -10,7 +10,8 @@ ghost use mathlib.Core.Bool.{true};
 ghost use lib.ListN.{length};
 ghost use Rattle.stream.specs.Call.{lentLeast};
 ghost use Rattle.comlynx.specs.Rules.{sized, begins};
-ghost use Rattle.comlynx.specs.Machine.{bodyMax, keepOf, advanceOf, inRange};
+ghost use Rattle.comlynx.specs.Machine.{keepOf, advanceOf, inRange};
+ghost use Rattle.comlynx.specs.Wire.{bodyMax};
 ghost use Rattle.comlynx.specs.Reader.{IsFresh, IsStep};
 ghost use Rattle.comlynx.specs.Inside.{AllPlain, Filled, Runs, due, Judges, Small, given};
 

@@ -15,7 +15,8 @@ use Rattle.stream.specs.Event.{Event, message, damage, Told, done, gives, refus
 use Rattle.stream.specs.Event as Event
 use Rattle.stream.specs.Call.{retold, delivered}
 use Rattle.eversolar_words.specs.Words.{word}
-use Rattle.eversolar.specs.Wire.{Message, payloadMax, earlierOf, checksum, messageOf, judged}
+use Rattle.eversolar.specs.Wire.{Message, payloadMax, earlierOf, checksum, messageOf}
+use Rattle.eversolar.specs.Rules.{judged}
 use Rattle.eversolar.specs.Machine.{bodyMax}
 use Rattle.eversolar.specs.Reader.{told, header}
 use Rattle.eversolar.specs.Inside.{judgedFrame, eventOf, Fits, JudgedAs, Small, given}

@@ -23,8 +23,8 @@ use Rattle.stream.proofs.WrittenIsGiven.{scan-by}
 use Rattle.stream.proofs.ListLaws.{sets-append, sets-front}
 use Rattle.stream.proofs.FollowsByBytes.{Finds, finds-end, finds-goes, finds-call, finds-quiet}
 use Rattle.eversolar_words.specs.Words.{word}
-use Rattle.eversolar.specs.Wire.{Message, payloadMax, firstMark, secondMark, judged}
-use Rattle.eversolar.specs.Rules.{frame, sought}
+use Rattle.eversolar.specs.Wire.{Message, payloadMax, firstMark, secondMark}
+use Rattle.eversolar.specs.Rules.{frame, sought, judged}
 use Rattle.eversolar.specs.Machine.{looking, holding, bodyMax, lookedOf, most, on, tells, next}
 use Rattle.eversolar.specs.declared.reader.Reader.{Reader}
 use Rattle.eversolar.proofs.StageRanges.{most-lead, most-body}

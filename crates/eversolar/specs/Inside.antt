@@ -10,7 +10,8 @@ use Rattle.stream.specs.Event as Event
 use Rattle.stream.specs.Call.{retold}
 use Rattle.stream.specs.Pieces.{scan, scanFrom}
 use Rattle.eversolar_words.specs.Words.{word}
-use Rattle.eversolar.specs.Wire.{Message, payloadMax, judged}
+use Rattle.eversolar.specs.Wire.{Message, payloadMax}
+use Rattle.eversolar.specs.Rules.{judged}
 use Rattle.eversolar.specs.Machine.{holding, inRange, most, next}
 use Rattle.eversolar.specs.Reader.{told, header}
 use Rattle.eversolar.specs.declared.reader.Answer.{Answer}

@@ -8,7 +8,8 @@ use lib.Dec.{eqb, ltb, leb}
 use Rattle.stream.specs.Event.{Event}
 use Rattle.stream.specs.Pieces.{Moved}
 use Rattle.eversolar_words.specs.Words.{word}
-use Rattle.eversolar.specs.Wire.{Message, payloadMax, firstMark, secondMark, judged}
+use Rattle.eversolar.specs.Wire.{Message, payloadMax, firstMark, secondMark}
+use Rattle.eversolar.specs.Rules.{judged}
 use Rattle.eversolar.specs.declared.reader.Reader.{Reader}
 use Rattle.eversolar.specs.declared.reader.Move.{Move}
 use Rattle.eversolar.specs.declared.reader.Move.the-variants.{Keep, Size, Close}

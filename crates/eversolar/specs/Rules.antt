@@ -5,10 +5,17 @@ use mathlib.Core.Option.{Option, none, some}
 use mathlib.Core.List.{List, [], _∷_}
 use lib.ListN.{length, take, drop, getD}
 use lib.Dec.{eqb, ltb}
-use Rattle.stream.specs.Event.{Event}
+use Rattle.answers.specs.Answer.{need}
+use Rattle.stream.specs.Event.{Event, message, damage}
 use Rattle.stream.specs.Rule.{Settled}
 use Rattle.eversolar_words.specs.Words.{word}
-use Rattle.eversolar.specs.Wire.{Message, firstMark, secondMark, judged}
+use Rattle.eversolar.specs.Wire.{Message, firstMark, secondMark, earlierOf, checksum, messageOf}
+
+-- what a frame comes to, by the six bytes, N, the data and the checksum that came: the sum is right, else 6
+unfoldable pub judged : List ℕ → ℕ → List ℕ → ℕ → Event Message
+judged six n payload sum =
+    need (eqb sum (checksum (earlierOf six n payload))) (damage 6)
+    (message (messageOf six payload))
 
 -- where `at` bytes came before, up to and with AA 55: six bytes, N, N data bytes and the checksum, once they are all there
 -- (while N is not, it counts as 0, and the checksum is missing)

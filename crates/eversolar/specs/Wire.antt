@@ -1,11 +1,9 @@
 -- Eversolar on the wire: AA 55, source, destination, control, function, length N, N data bytes, two checksum bytes.
 use Prim.Native.Nat.{ℕ, _+_, _%_, _≤_, _<_}
-use mathlib.Core.Bool.{cond}
 use mathlib.Core.List.{List, [], _∷_, _++_}
 use lib.ListN.{length, getD}
-use lib.Dec.{T, eqb}
+use lib.Dec.{T}
 use lib.Pow.{areBytes}
-use Rattle.stream.specs.Event.{Event, message, damage}
 use Rattle.eversolar_words.specs.Words.{wordBytes}
 
 -- source and destination are two bytes each, as sent
@@ -73,7 +71,3 @@ messageOf six payload = record {
   function = getD six 5 0;
   payload = payload;
 }
-
--- what a frame comes to, by the six bytes, N, the data and the checksum that came: a wrong sum is 6
-unfoldable pub judged : List ℕ → ℕ → List ℕ → ℕ → Event Message
-judged six n payload sum = cond (eqb sum (checksum (earlierOf six n payload))) (message (messageOf six payload)) (damage 6)

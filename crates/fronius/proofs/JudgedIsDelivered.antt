@@ -15,7 +15,8 @@ use Rattle.stream.proofs.ListLaws.{drop-take}
 use Rattle.stream.specs.Event.{Event, message, damage, Told, done, gives, refuses}
 use Rattle.stream.specs.Event as Event
 use Rattle.stream.specs.Call.{retold, delivered}
-use Rattle.fronius.specs.Wire.{Message, checksum, messageOf, judged}
+use Rattle.fronius.specs.Wire.{Message, checksum, messageOf}
+use Rattle.fronius.specs.Rules.{judged}
 use Rattle.fronius.specs.Reader.{told, header}
 use Rattle.fronius.specs.Inside.{judgedFrame, eventOf, Fits, JudgedAs, Small, given}
 use Rattle.fronius.specs.declared.reader.Header.{Header}

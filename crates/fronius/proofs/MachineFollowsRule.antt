@@ -20,8 +20,8 @@ use Rattle.stream.proofs.LoopScans.{scan-front}
 use Rattle.stream.proofs.WrittenIsGiven.{scan-by}
 use Rattle.stream.proofs.ListLaws.{sets-front}
 use Rattle.stream.proofs.FollowsByBytes.{Finds, finds-end, finds-goes, finds-tells, finds-call, finds-quiet}
-use Rattle.fronius.specs.Wire.{Message, mark, judged}
-use Rattle.fronius.specs.Rules.{frame, sized, sought}
+use Rattle.fronius.specs.Wire.{Message, mark}
+use Rattle.fronius.specs.Rules.{frame, sized, sought, judged}
 use Rattle.fronius.specs.Machine.{counting, filling, on, next}
 use Rattle.fronius.specs.declared.reader.Reader.{Reader}
 use Rattle.fronius.proofs.MachineMoves.{count-more, count-none, size-mark, size-opens, size-bad, fill-more, fill-ends}

@@ -9,7 +9,8 @@ use Rattle.stream.specs.Event.{Event, damage}
 use Rattle.stream.specs.Event as Event
 use Rattle.stream.specs.Call.{retold}
 use Rattle.stream.specs.Pieces.{scan, scanFrom}
-use Rattle.fronius.specs.Wire.{Message, payloadMax, mark, judged}
+use Rattle.fronius.specs.Wire.{Message, payloadMax, mark}
+use Rattle.fronius.specs.Rules.{judged}
 use Rattle.fronius.specs.Machine.{filling, inRange, next}
 use Rattle.fronius.specs.Reader.{told, header}
 use Rattle.fronius.specs.declared.reader.Answer.{Answer}

@@ -7,7 +7,8 @@ use lib.ListN.{take, set, replicate}
 use lib.Dec.{eqb, ltb, leb}
 use Rattle.stream.specs.Event.{Event, damage}
 use Rattle.stream.specs.Pieces.{Moved}
-use Rattle.fronius.specs.Wire.{Message, payloadMax, mark, judged}
+use Rattle.fronius.specs.Wire.{Message, payloadMax, mark}
+use Rattle.fronius.specs.Rules.{judged}
 use Rattle.fronius.specs.declared.reader.Reader.{Reader}
 use Rattle.fronius.specs.declared.reader.Move.{Move}
 use Rattle.fronius.specs.declared.reader.Move.the-variants.{Count, Open, Keep, Close, Bad}

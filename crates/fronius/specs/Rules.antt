@@ -5,9 +5,16 @@ use mathlib.Core.Option.{Option, none, some}
 use mathlib.Core.List.{List, [], _∷_}
 use lib.ListN.{length, take, drop, getD}
 use lib.Dec.{eqb, ltb}
-use Rattle.stream.specs.Event.{Event, damage}
+use Rattle.answers.specs.Answer.{need}
+use Rattle.stream.specs.Event.{Event, message, damage}
 use Rattle.stream.specs.Rule.{Settled}
-use Rattle.fronius.specs.Wire.{Message, mark, judged}
+use Rattle.fronius.specs.Wire.{Message, mark, checksum, messageOf}
+
+-- what a frame comes to, by its length, its body and the checksum that came: the sum is right, else 6
+unfoldable pub judged : ℕ → List ℕ → ℕ → Event Message
+judged len bs sum =
+    need (eqb sum (checksum (len ∷ bs))) (damage 6)
+    (message (messageOf bs))
 
 -- where `at` bytes came before, up to and with the length: the body and the checksum, once they are all there
 unfoldable pub frame : ℕ → ℕ → List ℕ → Option (Settled (Event Message))

@@ -1,11 +1,9 @@
 -- Fronius on the wire: 80 80 80, length, device, number, command, data, checksum.
 use Prim.Native.Nat.{ℕ, _+_, _%_, _≤_, _<_}
-use mathlib.Core.Bool.{cond}
 use mathlib.Core.List.{List, [], _∷_, _++_}
 use lib.ListN.{length, drop, getD}
-use lib.Dec.{T, eqb}
+use lib.Dec.{T}
 use lib.Pow.{areBytes}
-use Rattle.stream.specs.Event.{Event, message, damage}
 
 pub record Message : Type 0 where
   pub device : ℕ
@@ -48,7 +46,3 @@ wire m = mark ∷ mark ∷ mark ∷ length (m .payload) ∷ (body m ++ (checksum
 -- the message that a body is
 abbrev pub messageOf : List ℕ → Message
 messageOf bs = record { device = getD bs 0 0; number = getD bs 1 0; command = getD bs 2 0; payload = drop 3 bs }
-
--- what a frame comes to, by its length, its body and the checksum that came: a wrong sum is 6
-unfoldable pub judged : ℕ → List ℕ → ℕ → Event Message
-judged len bs sum = cond (eqb sum (checksum (len ∷ bs))) (message (messageOf bs)) (damage 6)

@@ -20,11 +20,13 @@ use Rattle.comlynx.specs.declared.reader.Reader as ComlynxState
 use Rattle.comlynx.proofs.StageRanges as ComlynxRange
 use Rattle.eversolar_words.specs.Words.{word}
 use Rattle.eversolar.specs.Wire as EversolarWire
+use Rattle.eversolar.specs.Rules as EversolarRules
 use Rattle.eversolar.specs.Machine as Eversolar
 use Rattle.eversolar.specs.Reader as EversolarReader
 use Rattle.eversolar.specs.declared.reader.Reader as EversolarState
 use Rattle.eversolar.proofs.StageRanges as EversolarRange
 use Rattle.fronius.specs.Wire as FroniusWire
+use Rattle.fronius.specs.Rules as FroniusRules
 use Rattle.fronius.specs.Machine as Fronius
 use Rattle.fronius.specs.Reader as FroniusReader
 use Rattle.fronius.specs.declared.reader.Reader as FroniusState
@@ -74,8 +76,8 @@ froniusWeight s = 2 * s .count
 
 module _ (port : ℕ) (small : port < 10) where
   fronius-judged : (len count sum : ℕ) (held : List ℕ) → 3 + len ≤ count
-      → length (entryLine port (showEvent showFronius (FroniusWire.judged len (take (3 + len) held) sum))) ≤ 2 * count + perByte
-  unfolding FroniusWire.judged
+      → length (entryLine port (showEvent showFronius (FroniusRules.judged len (take (3 + len) held) sum))) ≤ 2 * count + perByte
+  unfolding FroniusRules.judged
   fronius-judged len count sum held h = go (eqb sum (FroniusWire.checksum (len ∷ take (3 + len) held)))
     where
       go : (t : Bool) → length (entryLine port (showEvent showFronius (cond t (message (FroniusWire.messageOf (take (3 + len) held))) (damage 6)))) ≤ 2 * count + perByte
@@ -116,8 +118,8 @@ most-body stage len e = rw e
 
 module _ (port : ℕ) (small : port < 10) where
   eversolar-judged : (six : List ℕ) (len count sum : ℕ) (held : List ℕ) → 8 + len ≤ count
-      → length (entryLine port (showEvent showEversolar (EversolarWire.judged six len (take len (drop 7 held)) sum))) ≤ 2 * count + perByte
-  unfolding EversolarWire.judged
+      → length (entryLine port (showEvent showEversolar (EversolarRules.judged six len (take len (drop 7 held)) sum))) ≤ 2 * count + perByte
+  unfolding EversolarRules.judged
   eversolar-judged six len count sum held h = go (eqb sum (EversolarWire.checksum (EversolarWire.earlierOf six len (take len (drop 7 held)))))
     where
       go : (t : Bool) → length (entryLine port (showEvent showEversolar (cond t (message (EversolarWire.messageOf six (take len (drop 7 held)))) (damage 6)))) ≤ 2 * count + perByte
@@ -156,16 +158,16 @@ module _ (port : ℕ) (small : port < 10) where
   comlynx-judged : (n : ℕ) (right : Bool) (bs : List ℕ) → length bs ≤ n
       → length (entryLine port (showEvent showComlynx (ComlynxRules.judged n right bs))) ≤ 2 * n + perByte
   unfolding ComlynxRules.judged
-  comlynx-judged n right bs h = go (leb 10 n) (leb n 265) (ComlynxRules.begins bs) (eqb (getD bs 6 0) (n - 10)) right refl
+  comlynx-judged n right bs h = go (leb ComlynxWire.bodyLeast n) (leb n ComlynxWire.bodyMax) (ComlynxRules.begins bs) (eqb (getD bs 6 0) (n - ComlynxWire.bodyLeast)) right refl
     where
-      go : (p q r t u : Bool) → leb 10 n ≡ p
+      go : (p q r t u : Bool) → leb ComlynxWire.bodyLeast n ≡ p
           → length
           (entryLine port
           (showEvent showComlynx
           (cond (p && q) (cond r (cond t (cond u (message (ComlynxWire.messageOf bs)) (damage 6)) (damage 5)) (damage 4)) (damage 3)))) ≤ 2 * n + perByte
       go true true true true true e =
-          let long : length (take (length bs - 10) (drop 8 bs)) ≤ length bs - 10 = simp length-take (omega arith) in
-          omega (arith, leb-true 10 n e, message-most port (showComlynx (ComlynxWire.messageOf bs)) (omega arith))
+          let long : length (take (length bs - ComlynxWire.bodyLeast) (drop 8 bs)) ≤ length bs - ComlynxWire.bodyLeast = simp length-take (omega arith) in
+          omega (arith, leb-true ComlynxWire.bodyLeast n e, message-most port (showComlynx (ComlynxWire.messageOf bs)) (omega arith))
       go true true true true false e = omega (arith, damage-four port 6 small (omega arith))
       go true true true false u e = omega (arith, damage-four port 5 small (omega arith))
       go true true false t u e = omega (arith, damage-four port 4 small (omega arith))
@@ -180,21 +182,21 @@ module _ (port : ℕ) (small : port < 10) where
       → length (lineFor showComlynx port (Comlynx.moved (Comlynx.keepOf (s .count) v) s .event)) + comlynxWeight (Comlynx.moved (Comlynx.keepOf (s .count) v) s .state)
       ≤ comlynxWeight s + perByte
   unfolding Comlynx.keepOf Comlynx.moved
-  comlynx-keeps s v = go (ltb (s .count) Comlynx.bodyMax) refl
+  comlynx-keeps s v = go (ltb (s .count) ComlynxWire.bodyMax) refl
     where
-      go : (t : Bool) → ltb (s .count) Comlynx.bodyMax ≡ t
+      go : (t : Bool) → ltb (s .count) ComlynxWire.bodyMax ≡ t
           → length (lineFor showComlynx port (Comlynx.moved (Comlynx.keepOf (s .count) v) s .event)) + comlynxWeight (Comlynx.moved (Comlynx.keepOf (s .count) v) s .state)
           ≤ comlynxWeight s + perByte
       go true e = rw e (omega arith)
-      go false e = rw e (omega (arith, ltb-false (s .count) Comlynx.bodyMax e))
+      go false e = rw e (omega (arith, ltb-false (s .count) ComlynxWire.bodyMax e))
 
   pub comlynx-weighs : Weighs Comlynx.next showComlynx port comlynxWeight
   unfolding Comlynx.next Comlynx.advanceOf Comlynx.moved
   comlynx-weighs s b =
-      go (eqb (s .stage) 0) (eqb (s .stage) 1) (eqb (s .stage) 2) (eqb b ComlynxWire.flag) (eqb b ComlynxWire.escape) (eqb (s .count) 0) (eqb b 0x5E) (eqb b 0x5D) refl refl refl refl refl refl refl refl
+      go (eqb (s .stage) 0) (eqb (s .stage) 1) (eqb (s .stage) 2) (eqb b ComlynxWire.flag) (eqb b ComlynxWire.escape) (eqb (s .count) 0) (eqb b ComlynxWire.flagPair) (eqb b ComlynxWire.escapePair) refl refl refl refl refl refl refl refl
     where
       go : (p q r f x z m n : Bool) → eqb (s .stage) 0 ≡ p → eqb (s .stage) 1 ≡ q → eqb (s .stage) 2 ≡ r → eqb b ComlynxWire.flag ≡ f
-          → eqb b ComlynxWire.escape ≡ x → eqb (s .count) 0 ≡ z → eqb b 0x5E ≡ m → eqb b 0x5D ≡ n
+          → eqb b ComlynxWire.escape ≡ x → eqb (s .count) 0 ≡ z → eqb b ComlynxWire.flagPair ≡ m → eqb b ComlynxWire.escapePair ≡ n
           → length (lineFor showComlynx port (Comlynx.next s b .event)) + comlynxWeight (Comlynx.next s b .state) ≤ comlynxWeight s + perByte
       go true q r true x z m n a c d e g h i j = rw (a, e) (omega arith)
       go true q r false x z m n a c d e g h i j = rw (a, e) (omega arith)

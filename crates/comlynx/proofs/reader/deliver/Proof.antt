@@ -1,6 +1,7 @@
 use mathlib.Core.Path.{subst}
 use lib.ListN.{length-take, length-drop}
 use Rattle.stream.proofs.ListLaws.{part-front}
+use Rattle.comlynx.specs.Wire.{payloadMax}
 use Rattle.comlynx.specs.Inside.{Small, given}
 use Rattle.comlynx.specs.declared.reader.Answer.{Answer}
 use native.Mathlib.Omega.{arith}
@@ -10,7 +11,7 @@ use borrow.Author.Needs.{needs}
 use Rattle.comlynx.proofs.reader.deliver.Statement.{statement}
 use Rattle.comlynx.proofs.reader.deliver.Tie as tie
 
-small-at : (c : tie.After-answer) → c .answer .given .0 .0 .len ≤ 255
+small-at : (c : tie.After-answer) → c .answer .given .0 .0 .len ≤ payloadMax
 small-at c = subst Small (c .answer .given .1) (c .before .before .before .before .pre .0)
 
 enum-known-answer : tie.Need-enum-known-answer

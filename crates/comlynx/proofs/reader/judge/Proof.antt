@@ -1,3 +1,4 @@
+use Rattle.comlynx.specs.Wire.{bodyMax, bodyLeast}
 use Rattle.comlynx.specs.Reader.{told}
 use borrow.Author.Tests.{not-true, not-false}
 use Rattle.comlynx.specs.Rules.{sized, begins}
@@ -23,20 +24,20 @@ fits c = sym (c .before .sized .ensures) ∙ not-false _ (c .if1 .left)
 starts : (c : tie.Else2) → begins (start (c .before .before) .args .held .now) ≡ true
 starts c = sym (c .before .begins .ensures) ∙ not-false _ (c .if2 .left)
 
-bounds : (c : tie.Else1) → (10 ≤ start c .args .count) × (start c .args .count ≤ 265)
+bounds : (c : tie.Else1) → (bodyLeast ≤ start c .args .count) × (start c .args .count ≤ bodyMax)
 bounds c = sized-bounds (start c .args .count) (fits c)
 
-less-ten : (n : ℕ) → n - 10 ≡ n - 8 - 2
+less-ten : (n : ℕ) → n - bodyLeast ≡ n - 8 - 2
 less-ten n = omega arith
 
-size : (c : tie.Else3) → getD (start (c .before .before .before .before .before) .args .held .now) 6 0 ≡ start (c .before .before .before .before .before) .args .count - 10
+size : (c : tie.Else3) → getD (start (c .before .before .before .before .before) .args .held .now) 6 0 ≡ start (c .before .before .before .before .before) .args .count - bodyLeast
 size c = sym (c .before .wide .ensures) ∙ c .if3 .left ∙ sym (less-ten _)
 
 -- the header that was made
 read : (c : tie.After-shared-slice-known7)
     → (let s = start (c .before .before .before .before .before .before .before .before .before .before .before .before .before .before) in
     record { source = c .before .before .before .before .word .result; destination = c .before .word2 .result; kind = getD (s .args .held .now) 7 0; len = s .args .count - 8 - 2 }
-    ≡ heldHeader (s .args .count - 10) (s .args .held .now))
+    ≡ heldHeader (s .args .count - bodyLeast) (s .args .held .now))
 read c = rw (c .before .before .before .before .word .ensures, c .before .word2 .ensures, less-ten (start (c .before .before .before .before .before .before .before .before .before .before .before .before .before .before) .args .count))
 
 sized-requires : tie.Need-sized-requires

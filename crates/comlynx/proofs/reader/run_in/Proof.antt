@@ -5,8 +5,8 @@ use lib.ListN.{length-set}
 use Rattle.stream.specs.Event.{Event}
 use Rattle.stream.specs.Pieces.{Called, scan, scanFrom}
 use Rattle.stream.proofs.LoopScans.{from-start, from-goes, from-tells, from-end}
-use Rattle.comlynx.specs.Wire.{Message}
-use Rattle.comlynx.specs.Machine.{tooMany, bodyMax, moved, next}
+use Rattle.comlynx.specs.Wire.{Message, bodyMax}
+use Rattle.comlynx.specs.Machine.{tooMany, moved, next}
 use Rattle.comlynx.specs.declared.reader.Reader.{Reader}
 use Rattle.comlynx.specs.declared.reader.Move.{Move}
 use Rattle.comlynx.specs.declared.reader.Move.the-variants.{Skip, Open, Mark, Spoil, Keep, Over, Close, Fail}

@@ -1,6 +1,6 @@
 use lib.ListN.{length-set}
 use mathlib.Core.List.{[], _∷_}
-use Rattle.comlynx.specs.Wire.{escape, stuffed}
+use Rattle.comlynx.specs.Wire.{escape, stuffed, flagPair, escapePair}
 use Rattle.comlynx.proofs.StoresMakeFrame.{stuffed-flag, stuffed-escape, stuffed-plain, put-pair, put-plain}
 use native.Mathlib.Omega.{arith}
 use mathlib.Core.Path.{_≡_, ap}
@@ -10,10 +10,10 @@ use Rattle.comlynx.proofs.writer.put.Statement.{statement}
 use Rattle.comlynx.proofs.writer.put.Tie as tie
 
 -- the byte stuffed, as the tests say
-as-flag : (c : tie.Then1) → stuffed (c .before .args .b ∷ []) ≡ escape ∷ 0x5E ∷ []
+as-flag : (c : tie.Then1) → stuffed (c .before .args .b ∷ []) ≡ escape ∷ flagPair ∷ []
 as-flag c = stuffed-flag (c .before .args .b) (c .if1 .taken)
 
-as-escape : (c : tie.Then2) → stuffed (c .before .before .args .b ∷ []) ≡ escape ∷ 0x5D ∷ []
+as-escape : (c : tie.Then2) → stuffed (c .before .before .args .b ∷ []) ≡ escape ∷ escapePair ∷ []
 as-escape c = stuffed-escape (c .before .before .args .b) (c .if2 .taken)
 
 as-plain : (c : tie.Else2) → stuffed (c .before .before .args .b ∷ []) ≡ c .before .before .args .b ∷ []
@@ -35,7 +35,7 @@ same-length : tie.Need-same-length
 same-length c = search needs
 
 returns : tie.Need-returns
-returns c = put-pair (c .before .args .b) (c .before .args .at) 0x5E (c .before .args .lent .now) (as-flag c)
+returns c = put-pair (c .before .args .b) (c .before .args .at) flagPair (c .before .args .lent .now) (as-flag c)
 
 slice-write-lent-3 : tie.Need-slice-write-lent-3
 slice-write-lent-3 c = omega (arith, ap length (as-escape c))
@@ -53,7 +53,7 @@ same-length-2 : tie.Need-same-length-2
 same-length-2 c = search needs
 
 returns-2 : tie.Need-returns-2
-returns-2 c = put-pair (c .before .before .args .b) (c .before .before .args .at) 0x5D (c .before .before .args .lent .now) (as-escape c)
+returns-2 c = put-pair (c .before .before .args .b) (c .before .before .args .at) escapePair (c .before .before .args .lent .now) (as-escape c)
 
 slice-write-lent-5 : tie.Need-slice-write-lent-5
 slice-write-lent-5 c = omega (arith, ap length (as-plain c))

@@ -2,7 +2,7 @@ use mathlib.Core.Path.{subst}
 use Rattle.comlynx.proofs.StoresMakeFrame.{framed-length}
 use mathlib.Core.List.{List, [], _∷_}
 use Rattle.comlynx_checksum.specs.Checksum.{sent}
-use Rattle.comlynx.specs.Wire.{lead, covered, stuffed}
+use Rattle.comlynx.specs.Wire.{lead, covered, stuffed, payloadMax}
 use Rattle.comlynx.proofs.WriterWritesFrame.{asked, no-room, done, too-long}
 use native.Mathlib.Omega.{arith}
 use Prim.Native.Nat.{ℕ, _+_, _≤_}
@@ -28,7 +28,7 @@ last c = let d = sum-at c .sent-of .result in d .low ∷ d .high ∷ []
 first-is : (c : tie.After-stuffed-len3) → (let a = start c .args in first c ≡ lead (a .source) (a .destination) (length (a .payload .now)) (a .kind))
 first-is c = sum-at c .before .before .before .before .lead-of .ensures
 
-few : (c : tie.After-stuffed-len3) → length (start c .args .payload .now) ≤ 255
+few : (c : tie.After-stuffed-len3) → length (start c .args .payload .now) ≤ payloadMax
 few c = sum-at c .before .before .before .before .before .if1 .left
 
 last-is : (c : tie.After-stuffed-len3)

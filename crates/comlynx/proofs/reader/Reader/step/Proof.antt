@@ -7,7 +7,7 @@ use Rattle.stream.specs.Event as Event
 use Rattle.stream.specs.Call.{Seen, retold, delivered}
 use Rattle.stream.specs.Pieces.{Called, scan}
 use Rattle.stream.proofs.PromiseOfStep.{steps-spoilt, steps-no-room, steps-scan}
-use Rattle.comlynx.specs.Wire.{Message}
+use Rattle.comlynx.specs.Wire.{Message, bodyMax}
 use Rattle.comlynx.specs.Rules.{judged}
 use Rattle.comlynx.specs.Machine.{closed, next}
 use Rattle.comlynx.specs.Reader.{inRange, header, told, shown, IsStep}
@@ -33,7 +33,7 @@ use Rattle.comlynx.proofs.reader.Reader.step.Tie as tie
 abbrev start : tie.After-run-in → tie.Start
 start c = c .before .before .before .before .before .before .before
 
-full-at : (c : tie.Start) → length (c .args .t1 .held) ≡ 265
+full-at : (c : tie.Start) → length (c .args .t1 .held) ≡ bodyMax
 full-at c = sym (length-map (c .args .t1 .held) (λ (v : ℕ). v)) ∙ c .good .0 .1 .1 .0 .1 .0 .1
 
 sound-at : (c : tie.Then1) → inRange (c .before .before .before .before .args .t1) ≡ true
@@ -46,7 +46,7 @@ held c = c .run-in .last .1 .1 .0
 abbrev after : tie.After-run-in → Reader
 after c = record { held = held c; stage = c .run-in .result .stage; count = c .run-in .result .count }
 
-full : (c : tie.After-run-in) → length (held c) ≡ 265
+full : (c : tie.After-run-in) → length (held c) ≡ bodyMax
 full c = c .run-in .ensures .sized ∙ full-at (start c)
 
 -- the whole call, by how the run ended
