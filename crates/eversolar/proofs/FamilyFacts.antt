@@ -18,7 +18,8 @@ use Rattle.stream.proofs.PromiseOfStep.{steps-seen, steps-keeps}
 use Rattle.stream.proofs.FamilyFacts.{Facts}
 use Rattle.stream.proofs.FollowsByBytes.{follows-by}
 use Rattle.eversolar_words.specs.Words.{word, wordBytes}
-use Rattle.eversolar.specs.Wire.{Message, Takes, payloadMax, firstMark, secondMark, total, checksum, sixOf, earlier, wire}
+use Rattle.eversolar.specs.Wire.{Message, Takes, payloadMax, firstMark, secondMark, checksum, sixOf, earlier, wire}
+use Rattle.numbers.specs.Lists.{total}
 use Rattle.eversolar.specs.Rules.{frame, sought, rule, judged}
 use Rattle.eversolar.specs.Machine.{next}
 use Rattle.eversolar.specs.Machine as Machine

@@ -9,7 +9,8 @@ use borrow.Author.Tests.{lt-ltb, le-ltb}
 use native.Mathlib.Numerals.{add-one}
 use native.Mathlib.Omega.{arith}
 use Rattle.eversolar_words.specs.Words.{word}
-use Rattle.eversolar.specs.Wire.{total, earlierOf}
+use Rattle.eversolar.specs.Wire.{earlierOf}
+use Rattle.numbers.specs.Lists.{total}
 use Rattle.eversolar.specs.Rules.{judged}
 use Rattle.eversolar.specs.Machine.{holding, lookedOf, most, advanceOf, on, tells, moved, next}
 

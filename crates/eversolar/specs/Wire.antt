@@ -4,6 +4,7 @@ use mathlib.Core.List.{List, [], _∷_, _++_}
 use lib.ListN.{length, getD}
 use lib.Dec.{T}
 use lib.Pow.{areBytes}
+use Rattle.numbers.specs.Lists.{total}
 use Rattle.eversolar_words.specs.Words.{wordBytes}
 
 -- source and destination are two bytes each, as sent
@@ -47,10 +48,6 @@ abbrev pub earlierOf : List ℕ → ℕ → List ℕ → List ℕ
 earlierOf six n payload = firstMark ∷ secondMark ∷ (six ++ (n ∷ payload))
 
 -- the checksum is the sum of all earlier bytes, AA 55 included, modulo 65,536
-abbrev pub total : List ℕ → ℕ
-total [] = 0
-total (b ∷ bs) = b + total bs
-
 unfoldable pub checksum : List ℕ → ℕ
 checksum bs = total bs % 65536
 

@@ -17,7 +17,8 @@ use Rattle.stream.proofs.BytesOfParts.{bytes-cons, bytes-append}
 use Rattle.stream.proofs.PromiseOfStep.{steps-seen, steps-keeps}
 use Rattle.stream.proofs.FamilyFacts.{Facts}
 use Rattle.stream.proofs.FollowsByBytes.{follows-by}
-use Rattle.fronius.specs.Wire.{Message, Takes, payloadMax, mark, total, checksum, body, wire}
+use Rattle.fronius.specs.Wire.{Message, Takes, payloadMax, mark, checksum, body, wire}
+use Rattle.numbers.specs.Lists.{total}
 use Rattle.fronius.specs.Rules.{frame, sized, sought, rule, judged}
 use Rattle.fronius.specs.Machine.{next}
 use Rattle.fronius.specs.Machine as Machine

@@ -9,7 +9,8 @@ use borrow.Author.Tests.{lt-ltb, le-ltb, ne-eqb}
 use native.Mathlib.Numerals.{add-one}
 use native.Mathlib.Omega.{arith}
 use Rattle.stream.specs.Event.{damage}
-use Rattle.fronius.specs.Wire.{mark, total}
+use Rattle.fronius.specs.Wire.{mark}
+use Rattle.numbers.specs.Lists.{total}
 use Rattle.fronius.specs.Rules.{judged}
 use Rattle.fronius.specs.Machine.{counting, filling, advanceOf, on, tells, moved, next}
 

@@ -4,6 +4,7 @@ use mathlib.Core.List.{List, [], _∷_, _++_}
 use lib.ListN.{length, drop, getD}
 use lib.Dec.{T}
 use lib.Pow.{areBytes}
+use Rattle.numbers.specs.Lists.{total}
 
 pub record Message : Type 0 where
   pub device : ℕ
@@ -28,10 +29,6 @@ abbrev pub mark : ℕ
 mark = 0x80
 
 -- the checksum: the sum of all but the start and itself, modulo 256
-abbrev pub total : List ℕ → ℕ
-total [] = 0
-total (b ∷ bs) = b + total bs
-
 unfoldable pub checksum : List ℕ → ℕ
 checksum bs = total bs % 256
 

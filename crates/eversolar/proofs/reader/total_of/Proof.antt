@@ -1,6 +1,6 @@
 use lib.ListN.{length-drop, getD, take, drop}
 use lib.Seq.{getD-drop}
-use Rattle.eversolar.specs.Wire.{total}
+use Rattle.numbers.specs.Lists.{total}
 use Rattle.eversolar.proofs.MachineMoves.{total-more}
 use native.Mathlib.Omega.{arith}
 use Prim.Native.Nat.{ℕ, _+_, _*_, _-_, _<_, _≤_}

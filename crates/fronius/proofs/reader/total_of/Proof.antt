@@ -1,6 +1,6 @@
 -- `reader::total_of`: the sum so far is that of the bytes passed, modulo 256.
 -- Assumes nothing.
-use Rattle.fronius.specs.Wire.{total}
+use Rattle.numbers.specs.Lists.{total}
 use Rattle.fronius.proofs.MachineMoves.{total-more}
 use native.Mathlib.Omega.{arith}
 use Prim.Native.Nat.{ℕ, _-_, _%_, _≤_}
