@@ -18,13 +18,13 @@ use Rattle.comlynx.specs.Inside.{Plain, AllPlain, Filled}
 use Rattle.comlynx.proofs.MachineMoves.{keeps}
 
 -- none, one, and some after some
-pub filled-none : (p : List ℕ) (i c : ℕ) (h : List ℕ) → i ≤ length p → c ≤ bodyMax → Filled p i c h i h
-filled-none p i c h hi hc =
+pub filled-none : (c : ℕ) (h p : List ℕ) (i : ℕ) → i ≤ length p → c ≤ bodyMax → Filled c h p i i h
+filled-none c h p i hi hc =
     let e : c ≡ c + (i - i) = omega arith in
     record { forward = omega arith; within = hi; room = omega arith; sized = refl; goes = ap (λ (n : ℕ). scanFrom next (inside n h) p i) e }
 
-pub filled-one : (p : List ℕ) (i c : ℕ) (h : List ℕ) → i < length p → c < bodyMax → Plain (getD p i 0) → Filled p i c h (i + 1) (set h c (getD p i 0))
-filled-one p i c h hi hc q =
+pub filled-one : (c : ℕ) (h p : List ℕ) (i : ℕ) → i < length p → c < bodyMax → Plain (getD p i 0) → Filled c h p i (i + 1) (set h c (getD p i 0))
+filled-one c h p i hi hc q =
     let e : c + 1 ≡ c + (i + 1 - i) = omega arith in
     record {
       forward = omega arith;
@@ -36,8 +36,8 @@ filled-one p i c h hi hc q =
           ∙ ap (λ (n : ℕ). scanFrom next (inside n (set h c (getD p i 0))) p (i + 1)) e;
     }
 
-pub filled-more : (p : List ℕ) (i c : ℕ) (h : List ℕ) (j : ℕ) (k : List ℕ) (d m : ℕ) (l : List ℕ) → d ≡ c + (j - i) → Filled p i c h j k → Filled p j d k m l → Filled p i c h m l
-filled-more p i c h j k d m l e f g =
+pub filled-more : (c : ℕ) (h p : List ℕ) (i : ℕ) (j : ℕ) (k : List ℕ) (d m : ℕ) (l : List ℕ) → d ≡ c + (j - i) → Filled c h p i j k → Filled d k p j m l → Filled c h p i m l
+filled-more c h p i j k d m l e f g =
     let n : d + (m - j) ≡ c + (m - i) = omega (arith, f .forward, g .forward) in
     record {
       forward = omega (arith, f .forward, g .forward);

@@ -29,7 +29,7 @@ abbrev pub AllPlain : List ℕ → ℕ → ℕ → Type 0
 AllPlain s at n = (j : ℕ) → j < n → Plain (getD s (at + j) 0)
 
 -- `fill`: the bytes from i up to j are taken into the stretch, and the call goes on from there
-pub record Filled (piece : List ℕ) (i count : ℕ) (held : List ℕ) (j : ℕ) (later : List ℕ) : Type 0 where
+pub record Filled (count : ℕ) (held piece : List ℕ) (i j : ℕ) (later : List ℕ) : Type 0 where
   pub forward : i ≤ j
   pub within : j ≤ length piece
   pub room : count + (j - i) ≤ bodyMax

@@ -193,9 +193,9 @@ fn plain(s: &[u8], at: usize) -> bool
 }
 
 // Takes in the next RUN bytes, which are plain.
-fn take_in(held: &mut [u8; BODY], count: usize, piece: &[u8], at: usize)
+fn take_in(count: usize, held: &mut [u8; BODY], piece: &[u8], at: usize)
     requires { ⌜ (count + 16 ≤ bodyMax) × (at + 16 ≤ length (now piece)) × (length (now held) ≡ bodyMax) × AllPlain (now piece) at 16 ⌝ }
-    ensures { λ _. ⌜ Filled (now (piece .entry)) at count (now (held .entry)) (at + 16) (now (held .exit)) ⌝ }
+    ensures { λ _. ⌜ Filled count (now (held .entry)) (now (piece .entry)) at (at + 16) (now (held .exit)) ⌝ }
 {
     let mut k: usize = 0;
     while k < RUN {
@@ -205,15 +205,15 @@ fn take_in(held: &mut [u8; BODY], count: usize, piece: &[u8], at: usize)
 }
 
 // Takes in plain bytes from `from` on by runs, up to `stop` at most; gives the place after the last.
-fn fill_runs(held: &mut [u8; BODY], count: usize, piece: &[u8], from: usize, stop: usize) -> usize
+fn fill_runs(count: usize, held: &mut [u8; BODY], piece: &[u8], from: usize, stop: usize) -> usize
     requires { ⌜ (from ≤ stop) × (stop ≤ length (now piece)) × (count + (stop - from) ≤ bodyMax) × (length (now held) ≡ bodyMax) ⌝ }
-    ensures { λ r. ⌜ (r ≤ stop) × Filled (now (piece .entry)) from count (now (held .entry)) r (now (held .exit)) ⌝ }
+    ensures { λ r. ⌜ (r ≤ stop) × Filled count (now (held .entry)) (now (piece .entry)) from r (now (held .exit)) ⌝ }
 {
     let mut at = count;
     let mut i = from;
     while RUN <= stop - i {
         if plain(piece, i) {
-            take_in(held, at, piece, i);
+            take_in(at, held, piece, i);
             at += RUN;
             i += RUN;
         } else {
@@ -224,9 +224,9 @@ fn fill_runs(held: &mut [u8; BODY], count: usize, piece: &[u8], from: usize, sto
 }
 
 // The same byte by byte.
-fn fill_bytes(held: &mut [u8; BODY], count: usize, piece: &[u8], from: usize, stop: usize) -> usize
+fn fill_bytes(count: usize, held: &mut [u8; BODY], piece: &[u8], from: usize, stop: usize) -> usize
     requires { ⌜ (from ≤ stop) × (stop ≤ length (now piece)) × (count + (stop - from) ≤ bodyMax) × (length (now held) ≡ bodyMax) ⌝ }
-    ensures { λ r. ⌜ (r ≤ stop) × Filled (now (piece .entry)) from count (now (held .entry)) r (now (held .exit)) ⌝ }
+    ensures { λ r. ⌜ (r ≤ stop) × Filled count (now (held .entry)) (now (piece .entry)) from r (now (held .exit)) ⌝ }
 {
     let mut at = count;
     let mut i = from;
@@ -243,14 +243,14 @@ fn fill_bytes(held: &mut [u8; BODY], count: usize, piece: &[u8], from: usize, st
 }
 
 // Takes in plain bytes from `from` on while there is room; gives the place after the last.
-fn fill(held: &mut [u8; BODY], count: usize, piece: &[u8], from: usize) -> usize
+fn fill(count: usize, held: &mut [u8; BODY], piece: &[u8], from: usize) -> usize
     requires { ⌜ (count ≤ bodyMax) × (from ≤ length (now piece)) × (length (now held) ≡ bodyMax) ⌝ }
-    ensures { λ r. ⌜ Filled (now (piece .entry)) from count (now (held .entry)) r (now (held .exit)) ⌝ }
+    ensures { λ r. ⌜ Filled count (now (held .entry)) (now (piece .entry)) from r (now (held .exit)) ⌝ }
 {
     let stop = from + least(piece.len() - from, BODY - count);
-    let i = fill_runs(held, count, piece, from, stop);
+    let i = fill_runs(count, held, piece, from, stop);
     let at = count + (i - from);
-    fill_bytes(held, at, piece, i, stop)
+    fill_bytes(at, held, piece, i, stop)
 }
 
 // The piece, byte by byte, up to the flag that settles something or the end of the piece. Knows no checksum.
@@ -280,7 +280,7 @@ fn run_in(stage: u8, count: usize, held: &mut [u8; BODY], piece: &[u8]) -> Ran
             Move::Keep(v) => {
                 held[count] = v;
                 let next = count + 1;
-                let j = fill(held, next, piece, i);
+                let j = fill(next, held, piece, i);
                 stage = INSIDE;
                 count = next + (j - i);
                 i = j;

@@ -41,25 +41,25 @@ rests h f = record { held = h; full = f; is = refl }
 
 -- ---- bytes that are kept
 
-keep-next : (stage len c : ℕ) (h : List ℕ) (b : ℕ) → 2 ≤ stage → c < most stage len → next (holding stage len c h) b ≡ on (holding stage len (suc c) (set h c b))
-keep-next stage len c h b s lt = keep-more stage len c h b s lt ∙ ap (λ (n : ℕ). on (holding stage len n (set h c b))) (add-one c)
+keep-next : (stage c len : ℕ) (h : List ℕ) (b : ℕ) → 2 ≤ stage → c < most stage len → next (holding stage c len h) b ≡ on (holding stage (suc c) len (set h c b))
+keep-next stage c len h b s lt = keep-more stage c len h b s lt ∙ ap (λ (n : ℕ). on (holding stage n len (set h c b))) (add-one c)
 
-keep : (stage len c : ℕ) (h bs : List ℕ) → 2 ≤ stage → c + length bs ≤ most stage len → Quiet next (holding stage len c h) bs (holding stage len (c + length bs) (sets h c bs))
-keep stage len c h [] s f = rw add-zero (quiet-nil (holding stage len c h))
-keep stage len c h (b ∷ bs) s f =
-    quiet-cons (keep-next stage len c h b s (omega arith)) (rw (add-suc, ← suc-add) (keep stage len (suc c) (set h c b) bs s (omega arith)))
+keep : (stage c len : ℕ) (h bs : List ℕ) → 2 ≤ stage → c + length bs ≤ most stage len → Quiet next (holding stage c len h) bs (holding stage (c + length bs) len (sets h c bs))
+keep stage c len h [] s f = rw add-zero (quiet-nil (holding stage c len h))
+keep stage c len h (b ∷ bs) s f =
+    quiet-cons (keep-next stage c len h b s (omega arith)) (rw (add-suc, ← suc-add) (keep stage (suc c) len (set h c b) bs s (omega arith)))
 
-keep-lead : (h bs : List ℕ) → length bs ≤ 6 → Quiet next (holding 2 0 0 h) bs (holding 2 0 (0 + length bs) (sets h 0 bs))
+keep-lead : (h bs : List ℕ) → length bs ≤ 6 → Quiet next (holding 2 0 0 h) bs (holding 2 (0 + length bs) 0 (sets h 0 bs))
 keep-lead h bs le = keep 2 0 0 h bs (omega arith) (omega (arith, most-lead 0))
 
 -- six bytes, n, and w after them, as far as it is kept
-kept : (h six w : List ℕ) (n : ℕ) → length six ≡ 6 → length w ≤ n + 1 → Quiet next (holding 2 0 0 h) (six ++ (n ∷ w)) (holding 3 n (7 + length w) (sets h 0 (six ++ (n ∷ w))))
+kept : (h six w : List ℕ) (n : ℕ) → length six ≡ 6 → length w ≤ n + 1 → Quiet next (holding 2 0 0 h) (six ++ (n ∷ w)) (holding 3 (7 + length w) n (sets h 0 (six ++ (n ∷ w))))
 kept h six w n s f =
-    let first : Quiet next (holding 2 0 0 h) six (holding 2 0 6 (sets h 0 six)) = subst (λ (k : ℕ). Quiet next (holding 2 0 0 h) six (holding 2 0 k (sets h 0 six))) (omega arith) (keep-lead h six (omega arith)) in
-    let rest = keep 3 n 7 (set (sets h 0 six) 6 n) w (omega arith) (omega (arith, most-body n)) in
+    let first : Quiet next (holding 2 0 0 h) six (holding 2 6 0 (sets h 0 six)) = subst (λ (k : ℕ). Quiet next (holding 2 0 0 h) six (holding 2 k 0 (sets h 0 six))) (omega arith) (keep-lead h six (omega arith)) in
+    let rest = keep 3 7 n (set (sets h 0 six) 6 n) w (omega arith) (omega (arith, most-body n)) in
     let at : 0 + length six ≡ 6 = omega arith in
     let same : sets (set (sets h 0 six) 6 n) 7 w ≡ sets h 0 (six ++ (n ∷ w)) = ap (λ (k : ℕ). sets (sets h 0 six) k (n ∷ w)) (sym at) ∙ sets-append h 0 six (n ∷ w) in
-    quiet-append first (quiet-cons (size-comes (sets h 0 six) n) (subst (λ (l : List ℕ). Quiet next (holding 3 n 7 (set (sets h 0 six) 6 n)) w (holding 3 n (7 + length w) l)) same rest))
+    quiet-append first (quiet-cons (size-comes (sets h 0 six) n) (subst (λ (l : List ℕ). Quiet next (holding 3 7 n (set (sets h 0 six) 6 n)) w (holding 3 (7 + length w) n l)) same rest))
 
 -- ---- a frame: w are its data and the first byte of its checksum, y is the second, and others come after them
 
@@ -90,10 +90,10 @@ module _ (h six w : List ℕ) (n : ℕ) (s : length six ≡ 6) (e : length w ≡
   held-sum : getD held (7 + n) 0 ≡ getD w n 0
   held-sum = sym (getD-drop 7 held n 0) ∙ ap (λ (l : List ℕ). getD l n 0) held-rest ∙ sym (getD-take (n + 1) (w ++ drop (length all) h) n 0 (omega arith)) ∙ ap (λ (l : List ℕ). getD l n 0) (take-at w (drop (length all) h) (n + 1) e)
 
-  ends : (y : ℕ) → next (holding 3 n (7 + length w) held) y ≡ tells (judged six n (take n w) (word (getD w n 0) y)) held
+  ends : (y : ℕ) → next (holding 3 (7 + length w) n held) y ≡ tells (judged six n (take n w) (word (getD w n 0) y)) held
   ends y =
       let count : 7 + length w ≡ 8 + n = omega arith in
-      ap (λ (c : ℕ). next (holding 3 n c held) y) count ∙ body-ends n held y
+      ap (λ (c : ℕ). next (holding 3 c n held) y) count ∙ body-ends n held y
       ∙ ap (λ (l : List ℕ). tells (judged l n (take n (drop 7 held)) (word (getD held (7 + n) 0) y)) held) held-six
       ∙ ap (λ (l : List ℕ). tells (judged six n l (word (getD held (7 + n) 0) y)) held) held-data
       ∙ ap (λ (x : ℕ). tells (judged six n (take n w) (word x y)) held) held-sum

@@ -16,21 +16,21 @@ use Rattle.eversolar.specs.Machine.{holding, lookedOf, most, advanceOf, 
 
 -- ---- looking
 
-pub look-on : (stage t len count : ℕ) (h : List ℕ) (b : ℕ) → stage < 2 → lookedOf stage b ≡ t → next (holding stage len count h) b ≡ on (holding t len count h)
+pub look-on : (stage t count len : ℕ) (h : List ℕ) (b : ℕ) → stage < 2 → lookedOf stage b ≡ t → next (holding stage count len h) b ≡ on (holding t count len h)
 unfolding next
-look-on stage t len count h b lt e = rw (lt-ltb stage 2 lt, e)
+look-on stage t count len h b lt e = rw (lt-ltb stage 2 lt, e)
 
 -- ---- since AA 55
 
-pub keep-more : (stage len c : ℕ) (h : List ℕ) (b : ℕ) → 2 ≤ stage → c < most stage len → next (holding stage len c h) b ≡ on (holding stage len (c + 1) (set h c b))
+pub keep-more : (stage c len : ℕ) (h : List ℕ) (b : ℕ) → 2 ≤ stage → c < most stage len → next (holding stage c len h) b ≡ on (holding stage (c + 1) len (set h c b))
 unfolding next advanceOf moved
-keep-more stage len c h b s lt = rw (le-ltb stage 2 s, lt-ltb c (most stage len) lt)
+keep-more stage c len h b s lt = rw (le-ltb stage 2 s, lt-ltb c (most stage len) lt)
 
-pub size-comes : (h : List ℕ) (b : ℕ) → next (holding 2 0 6 h) b ≡ on (holding 3 b 7 (set h 6 b))
+pub size-comes : (h : List ℕ) (b : ℕ) → next (holding 2 6 0 h) b ≡ on (holding 3 7 b (set h 6 b))
 unfolding next advanceOf moved most
 size-comes h b = refl
 
-pub body-ends : (len : ℕ) (h : List ℕ) (b : ℕ) → next (holding 3 len (8 + len) h) b ≡ tells (judged (take 6 h) len (take len (drop 7 h)) (word (getD h (7 + len) 0) b)) h
+pub body-ends : (len : ℕ) (h : List ℕ) (b : ℕ) → next (holding 3 (8 + len) len h) b ≡ tells (judged (take 6 h) len (take len (drop 7 h)) (word (getD h (7 + len) 0) b)) h
 unfolding next advanceOf moved most
 body-ends len h b = rw (le-ltb (8 + len) (8 + len) (omega arith))
 

@@ -23,20 +23,20 @@ use Rattle.eversolar.specs.declared.reader.End.{End}
 use Rattle.eversolar.specs.declared.reader.End.the-variants.{UsedUp, Closed}
 
 -- `hunt`: the call goes on behind AA 55, in the head; or there is none up to the end of the piece
-abbrev pub Hunted : List ℕ → ℕ → ℕ → HuntEnd → Type 0
-Hunted piece i stage (Found j) =
-    (i < j) × (j ≤ length piece) × ((len count : ℕ) (held : List ℕ) → scanFrom next (holding stage len count held) piece i ≡ scanFrom next (holding 2 len count held) piece j)
-Hunted piece i stage (AtEnd later) =
+abbrev pub Hunted : ℕ → List ℕ → ℕ → HuntEnd → Type 0
+Hunted stage piece i (Found j) =
+    (i < j) × (j ≤ length piece) × ((count len : ℕ) (held : List ℕ) → scanFrom next (holding stage count len held) piece i ≡ scanFrom next (holding 2 count len held) piece j)
+Hunted stage piece i (AtEnd later) =
     (later < 2)
-    × ((len count : ℕ) (held : List ℕ) → scanFrom next (holding stage len count held) piece i ≡ scanFrom next (holding later len count held) piece (length piece))
+    × ((count len : ℕ) (held : List ℕ) → scanFrom next (holding stage count len held) piece i ≡ scanFrom next (holding later count len held) piece (length piece))
 
 -- `fill`: the bytes from i up to j are kept, and the call goes on from there
-pub record Filled (stage len : ℕ) (piece : List ℕ) (i count : ℕ) (held : List ℕ) (j : ℕ) (later : List ℕ) : Type 0 where
+pub record Filled (stage count len : ℕ) (held piece : List ℕ) (i j : ℕ) (later : List ℕ) : Type 0 where
   pub forward : i ≤ j
   pub within : j ≤ length piece
   pub room : count + (j - i) ≤ most stage len
   pub sized : length later ≡ length held
-  pub goes : scanFrom next (holding stage len count held) piece i ≡ scanFrom next (holding stage len (count + (j - i)) later) piece j
+  pub goes : scanFrom next (holding stage count len held) piece i ≡ scanFrom next (holding stage (count + (j - i)) len later) piece j
 
 -- the event that a frame is, by its length, the last byte of its checksum and the held bytes
 abbrev pub judgedFrame : ℕ → ℕ → List ℕ → Option (Event Message)
@@ -58,8 +58,8 @@ pub record Runs (stage count len : ℕ) (held piece : List ℕ) (r : Ran) (later
   pub fits : Fits (r .end)
   pub ranged : inRange (r .stage) (r .count) (r .len) ≡ true
   pub scanned :
-      scan next (holding stage len count held) piece
-      ≡ record { state = holding (r .stage) (r .len) (r .count) later; event = eventOf (r .end) later; used = r .used }
+      scan next (holding stage count len held) piece
+      ≡ record { state = holding (r .stage) (r .count) (r .len) later; event = eventOf (r .end) later; used = r .used }
 
 -- `judge`: the answer tells the event
 abbrev pub JudgedAs : Option (Event Message) → Answer → Type 0

@@ -21,7 +21,7 @@ looking stage held = record { held = held; stage = stage; count = 0; len = 0 }
 -- stages 2 and 3: since AA 55 `count` bytes have come, and stand at the front of `held`. In stage 2 the seventh, N, has not come;
 -- in stage 3 it was `len`, and all bytes but the last are 8 + len
 abbrev pub holding : ℕ → ℕ → ℕ → List ℕ → Reader
-holding stage len count held = record { held = held; stage = stage; count = count; len = len }
+holding stage count len held = record { held = held; stage = stage; count = count; len = len }
 
 -- six bytes, N, the data and the checksum's first byte: what a reader holds
 abbrev pub bodyMax : ℕ
@@ -57,12 +57,12 @@ abbrev pub tells : Event Message → List ℕ → Moved Reader (Event Message)
 tells e held = record { state = looking 0 held; event = some e }
 
 unfoldable pub moved : Move → Reader → ℕ → Moved Reader (Event Message)
-moved Keep s b = on (holding (s .stage) (s .len) (s .count + 1) (set (s .held) (s .count) b))
-moved Size s b = on (holding 3 b 7 (set (s .held) 6 b))
+moved Keep s b = on (holding (s .stage) (s .count + 1) (s .len) (set (s .held) (s .count) b))
+moved Size s b = on (holding 3 7 b (set (s .held) 6 b))
 moved Close s b =
     tells (judged (take 6 (s .held)) (s .len) (take (s .len) (drop 7 (s .held))) (word (getD (s .held) (7 + s .len) 0) b)) (s .held)
 
 unfoldable pub next : Reader → ℕ → Moved Reader (Event Message)
 next s b =
-    cond (ltb (s .stage) 2) (on (holding (lookedOf (s .stage) b) (s .len) (s .count) (s .held)))
+    cond (ltb (s .stage) 2) (on (holding (lookedOf (s .stage) b) (s .count) (s .len) (s .held)))
     (moved (advanceOf (s .stage) (s .count) (s .len)) s b)

@@ -84,9 +84,9 @@ enum HuntEnd {
 }
 
 // Looks for AA directly followed by 55 from `from` on. An AA that comes where 55 is looked for may itself open a header.
-fn hunt(piece: &[u8], from: usize, stage: u8) -> HuntEnd
+fn hunt(stage: u8, piece: &[u8], from: usize) -> HuntEnd
     requires { ⌜ (from ≤ length (now piece)) × (stage < 2) ⌝ }
-    ensures { λ r. ⌜ Hunted (now (piece .entry)) from stage r ⌝ }
+    ensures { λ r. ⌜ Hunted stage (now (piece .entry)) from r ⌝ }
 {
     let mut stage = stage;
     let mut i = from;
@@ -186,15 +186,15 @@ struct Ran {
 
 // Takes in bytes from `from` on, which need no look, as many as are kept and the piece has; gives the place after the last.
 fn fill(
-    held: &mut [u8; BODY],
     stage: u8,
     count: usize,
     len: usize,
+    held: &mut [u8; BODY],
     piece: &[u8],
     from: usize,
 ) -> usize
     requires { ⌜ (2 ≤ stage) × (len ≤ payloadMax) × (count ≤ most stage len) × (from ≤ length (now piece)) × (length (now held) ≡ bodyMax) ⌝ }
-    ensures { λ r. ⌜ Filled stage len (now (piece .entry)) from count (now (held .entry)) r (now (held .exit)) ⌝ }
+    ensures { λ r. ⌜ Filled stage count len (now (held .entry)) (now (piece .entry)) from r (now (held .exit)) ⌝ }
 {
     let stop = from + least(piece.len() - from, most_of(stage, len) - count);
     let mut at = count;
@@ -218,7 +218,7 @@ fn run_in(stage: u8, count: usize, len: usize, held: &mut [u8; BODY], piece: &[u
     let mut i: usize = 0;
     while i < piece.len() {
         if stage < IN_LEAD {
-            let found = hunt(piece, i, stage);
+            let found = hunt(stage, piece, i);
             match found {
                 HuntEnd::Found(j) => {
                     stage = IN_LEAD;
@@ -237,7 +237,7 @@ fn run_in(stage: u8, count: usize, len: usize, held: &mut [u8; BODY], piece: &[u
                 Move::Keep => {
                     held[count] = b;
                     let next = count + 1;
-                    let j = fill(held, stage, next, len, piece, i);
+                    let j = fill(stage, next, len, held, piece, i);
                     count = next + (j - i);
                     i = j;
                 }

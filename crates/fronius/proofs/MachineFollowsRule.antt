@@ -37,49 +37,49 @@ rests h f = record { held = h; full = f; is = refl }
 
 -- ---- the body and its checksum
 
-fill-next : (len c : ℕ) (h : List ℕ) (b : ℕ) → c < 3 + len → next (filling len c h) b ≡ on (filling len (suc c) (set h c b))
-fill-next len c h b lt = fill-more len c h b lt ∙ ap (λ (n : ℕ). on (filling len n (set h c b))) (add-one c)
+fill-next : (c len : ℕ) (h : List ℕ) (b : ℕ) → c < 3 + len → next (filling c len h) b ≡ on (filling (suc c) len (set h c b))
+fill-next c len h b lt = fill-more c len h b lt ∙ ap (λ (n : ℕ). on (filling n len (set h c b))) (add-one c)
 
-fill : (len c : ℕ) (h bs : List ℕ) → c + length bs ≤ 3 + len → Quiet next (filling len c h) bs (filling len (c + length bs) (sets h c bs))
-fill len c h [] f = rw add-zero (quiet-nil (filling len c h))
-fill len c h (b ∷ bs) f =
-    quiet-cons (fill-next len c h b (omega arith)) (rw (add-suc, ← suc-add) (fill len (suc c) (set h c b) bs (omega arith)))
+fill : (c len : ℕ) (h bs : List ℕ) → c + length bs ≤ 3 + len → Quiet next (filling c len h) bs (filling (c + length bs) len (sets h c bs))
+fill c len h [] f = rw add-zero (quiet-nil (filling c len h))
+fill c len h (b ∷ bs) f =
+    quiet-cons (fill-next c len h b (omega arith)) (rw (add-suc, ← suc-add) (fill (suc c) len (set h c b) bs (omega arith)))
 
 -- bytes that are not all of a body and its checksum
-short : (at len : ℕ) (h bs : List ℕ) → length bs < len + 4 → Finds next Rests at none (filling len 0 h) bs
-short at len h bs lt = finds-quiet next Rests (fill len 0 h bs (omega arith))
+short : (at len : ℕ) (h bs : List ℕ) → length bs < len + 4 → Finds next Rests at none (filling 0 len h) bs
+short at len h bs lt = finds-quiet next Rests (fill 0 len h bs (omega arith))
 
 -- bytes that are: w the body, b the checksum, and others after them
 whole : (at len : ℕ) (h w : List ℕ) (b : ℕ) (rest : List ℕ) → length w ≡ 3 + len → len ≤ 127 → length h ≡ 130
-    → Finds next Rests at (some (record { event = judged len w b; used = at + (len + 4) })) (filling len 0 h) ((w ++ (b ∷ [])) ++ rest)
+    → Finds next Rests at (some (record { event = judged len w b; used = at + (len + 4) })) (filling 0 len h) ((w ++ (b ∷ [])) ++ rest)
 whole at len h w b rest e small f =
     let held = sets h 0 w in
     let full : length held ≡ 130 = length-sets h 0 w ∙ f in
     let front : held ≡ w ++ drop (length w) h = sets-front w h (omega arith) in
     let body : take (3 + len) held ≡ w = ap (take (3 + len)) front ∙ take-at w (drop (length w) h) (3 + len) e in
-    let last = fill-ends len (0 + length w) held b (omega arith) in
-    let call = scan-by next (fill len 0 h w (omega arith)) last in
+    let last = fill-ends (0 + length w) len held b (omega arith) in
+    let call = scan-by next (fill 0 len h w (omega arith)) last in
     let count : length (w ++ (b ∷ [])) ≡ len + 4 = simp length-append (omega arith) in
-    let found = scan-front next (filling len 0 h) (w ++ (b ∷ [])) rest (judged len (take (3 + len) held) b) (ap (λ (r : Called Reader (Event Message)). r .event) call) ∙ call in
-    subst (λ (l : List ℕ). Finds next Rests at (some (record { event = judged len l b; used = at + (len + 4) })) (filling len 0 h) ((w ++ (b ∷ [])) ++ rest)) body
-    (subst (λ (n : ℕ). Finds next Rests at (some (record { event = judged len (take (3 + len) held) b; used = at + n })) (filling len 0 h) ((w ++ (b ∷ [])) ++ rest)) count
+    let found = scan-front next (filling 0 len h) (w ++ (b ∷ [])) rest (judged len (take (3 + len) held) b) (ap (λ (r : Called Reader (Event Message)). r .event) call) ∙ call in
+    subst (λ (l : List ℕ). Finds next Rests at (some (record { event = judged len l b; used = at + (len + 4) })) (filling 0 len h) ((w ++ (b ∷ [])) ++ rest)) body
+    (subst (λ (n : ℕ). Finds next Rests at (some (record { event = judged len (take (3 + len) held) b; used = at + n })) (filling 0 len h) ((w ++ (b ∷ [])) ++ rest)) count
     (finds-call next Rests found (rests held full)))
 
 split : (n : ℕ) (bs : List ℕ) → n < length bs → bs ≡ (take n bs ++ (getD bs n 0 ∷ [])) ++ drop (suc n) bs
 split n bs lt =
     sym (take-append-drop n bs) ∙ ap (λ (l : List ℕ). take n bs ++ l) (drop-cons bs n 0 lt) ∙ sym (append-assoc (take n bs) (getD bs n 0 ∷ []) (drop (suc n) bs))
 
-framed : (at len : ℕ) (h bs : List ℕ) → len ≤ 127 → length h ≡ 130 → Finds next Rests at (frame at len bs) (filling len 0 h) bs
+framed : (at len : ℕ) (h bs : List ℕ) → len ≤ 127 → length h ≡ 130 → Finds next Rests at (frame at len bs) (filling 0 len h) bs
 unfolding frame
 framed at len h bs small f = go (ltb (length bs) (len + 4)) refl
   where
     go : (t : Bool) → ltb (length bs) (len + 4) ≡ t
-        → Finds next Rests at (cond t none (some (record { event = judged len (take (len + 3) bs) (getD bs (len + 3) 0); used = at + (len + 4) }))) (filling len 0 h) bs
+        → Finds next Rests at (cond t none (some (record { event = judged len (take (len + 3) bs) (getD bs (len + 3) 0); used = at + (len + 4) }))) (filling 0 len h) bs
     go true e = short at len h bs (ltb-true (length bs) (len + 4) e)
     go false e =
         let long = ltb-false (length bs) (len + 4) e in
         let found = whole at len h (take (len + 3) bs) (getD bs (len + 3) 0) (drop (suc (len + 3)) bs) (length-take-le (len + 3) bs (omega arith) ∙ omega arith) small f in
-        subst (λ (l : List ℕ). Finds next Rests at (some (record { event = judged len (take (len + 3) bs) (getD bs (len + 3) 0); used = at + (len + 4) })) (filling len 0 h) l) (sym (split (len + 3) bs (omega arith))) found
+        subst (λ (l : List ℕ). Finds next Rests at (some (record { event = judged len (take (len + 3) bs) (getD bs (len + 3) 0); used = at + (len + 4) })) (filling 0 len h) l) (sym (split (len + 3) bs (omega arith))) found
 
 -- ---- the length, after three 80
 

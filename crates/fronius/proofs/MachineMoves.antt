@@ -28,7 +28,7 @@ pub size-mark : (h : List ℕ) → next (counting 3 h) mark ≡ on (counting 3 h
 unfolding next advanceOf moved
 size-mark h = refl
 
-pub size-opens : (h : List ℕ) (b : ℕ) → b < mark → next (counting 3 h) b ≡ on (filling b 0 h)
+pub size-opens : (h : List ℕ) (b : ℕ) → b < mark → next (counting 3 h) b ≡ on (filling 0 b h)
 unfolding next advanceOf moved
 size-opens h b lt = rw (ne-eqb b mark (λ e. omega arith), lt-ltb b mark lt)
 
@@ -38,13 +38,13 @@ size-bad h b lt = rw (ne-eqb b mark (λ e. omega arith), le-ltb b mark (omega ar
 
 -- ---- in the body
 
-pub fill-more : (len c : ℕ) (h : List ℕ) (b : ℕ) → c < 3 + len → next (filling len c h) b ≡ on (filling len (c + 1) (set h c b))
+pub fill-more : (c len : ℕ) (h : List ℕ) (b : ℕ) → c < 3 + len → next (filling c len h) b ≡ on (filling (c + 1) len (set h c b))
 unfolding next advanceOf moved
-fill-more len c h b lt = rw (lt-ltb c (3 + len) lt)
+fill-more c len h b lt = rw (lt-ltb c (3 + len) lt)
 
-pub fill-ends : (len c : ℕ) (h : List ℕ) (b : ℕ) → 3 + len ≤ c → next (filling len c h) b ≡ tells (judged len (take (3 + len) h) b) h
+pub fill-ends : (c len : ℕ) (h : List ℕ) (b : ℕ) → 3 + len ≤ c → next (filling c len h) b ≡ tells (judged len (take (3 + len) h) b) h
 unfolding next advanceOf moved
-fill-ends len c h b le = rw (le-ltb c (3 + len) le)
+fill-ends c len h b le = rw (le-ltb c (3 + len) le)
 
 -- ---- one more byte of a sum
 

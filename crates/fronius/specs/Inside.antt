@@ -20,12 +20,12 @@ use Rattle.fronius.specs.declared.reader.End.{End}
 use Rattle.fronius.specs.declared.reader.End.the-variants.{UsedUp, Closed, BadLength}
 
 -- `fill`: the bytes from i up to j are taken into the body, and the call goes on from there
-pub record Filled (len : ℕ) (piece : List ℕ) (i count : ℕ) (held : List ℕ) (j : ℕ) (later : List ℕ) : Type 0 where
+pub record Filled (count len : ℕ) (held piece : List ℕ) (i j : ℕ) (later : List ℕ) : Type 0 where
   pub forward : i ≤ j
   pub within : j ≤ length piece
   pub room : count + (j - i) ≤ 3 + len
   pub sized : length later ≡ length held
-  pub goes : scanFrom next (filling len count held) piece i ≡ scanFrom next (filling len (count + (j - i)) later) piece j
+  pub goes : scanFrom next (filling count len held) piece i ≡ scanFrom next (filling (count + (j - i)) len later) piece j
 
 -- the event that a frame is, by its length, the checksum that came and the held bytes
 abbrev pub judgedFrame : ℕ → ℕ → List ℕ → Option (Event Message)

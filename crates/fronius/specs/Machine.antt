@@ -19,7 +19,7 @@ counting count held = record { held = held; stage = 0; count = count; len = 0 }
 
 -- stage 1, the body: of 3 + len bytes `count` have come, and stand at the front of `held`
 abbrev pub filling : ℕ → ℕ → List ℕ → Reader
-filling len count held = record { held = held; stage = 1; count = count; len = len }
+filling count len held = record { held = held; stage = 1; count = count; len = len }
 
 -- device, number, command and data: what a reader holds
 abbrev pub bodyMax : ℕ
@@ -52,7 +52,7 @@ tells e held = record { state = counting 0 held; event = some e }
 
 unfoldable pub moved : Move → Reader → ℕ → Moved Reader (Event Message)
 moved (Count n) s b = on (record { held = s .held; stage = s .stage; count = n; len = s .len })
-moved (Open n) s b = on (filling n 0 (s .held))
+moved (Open n) s b = on (filling 0 n (s .held))
 moved Keep s b = on (record { held = set (s .held) (s .count) b; stage = s .stage; count = s .count + 1; len = s .len })
 moved Close s b = tells (judged (s .len) (take (3 + s .len) (s .held)) b) (s .held)
 moved Bad s b = tells (damage 7) (s .held)

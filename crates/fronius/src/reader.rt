@@ -146,9 +146,9 @@ struct Ran {
 }
 
 // Takes in bytes of the body from `from` on, which need no look, as many as it still lacks and the piece has; gives the place after the last.
-fn fill(held: &mut [u8; BODY], count: usize, len: usize, piece: &[u8], from: usize) -> usize
+fn fill(count: usize, len: usize, held: &mut [u8; BODY], piece: &[u8], from: usize) -> usize
     requires { ⌜ (count ≤ 3 + len) × (len ≤ payloadMax) × (from ≤ length (now piece)) × (length (now held) ≡ bodyMax) ⌝ }
-    ensures { λ r. ⌜ Filled len (now (piece .entry)) from count (now (held .entry)) r (now (held .exit)) ⌝ }
+    ensures { λ r. ⌜ Filled count len (now (held .entry)) (now (piece .entry)) from r (now (held .exit)) ⌝ }
 {
     let stop = from + least(piece.len() - from, HEADER + len - count);
     let mut at = count;
@@ -186,7 +186,7 @@ fn run_in(stage: u8, count: usize, len: usize, held: &mut [u8; BODY], piece: &[u
             Move::Keep => {
                 held[count] = b;
                 let next = count + 1;
-                let j = fill(held, next, len, piece, i);
+                let j = fill(next, len, held, piece, i);
                 count = next + (j - i);
                 i = j;
             }

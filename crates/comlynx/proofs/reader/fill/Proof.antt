@@ -32,7 +32,7 @@ returns : tie.Need-returns
 returns c =
     let a = c .before .before .before .before .before .before .args in
     let r = c .before .before .fill-runs in
-    filled-more (a .piece .now) (a .from) (a .count) (a .held .now) (r .result) _ _ _ _ refl (r .ensures .1) (c .fill-bytes .ensures .1)
+    filled-more (a .count) (a .held .now) (a .piece .now) (a .from) (r .result) _ _ _ _ refl (r .ensures .1) (c .fill-bytes .ensures .1)
 
 pub fill-spec : {M : Type 1} → statement M
 fill-spec =

@@ -8,15 +8,15 @@ use Rattle.comlynx.proofs.reader.fill_bytes.Statement.{statement}
 use Rattle.comlynx.proofs.reader.fill_bytes.Tie as tie
 
 abbrev Inv-loop : tie.InvT-loop
-Inv-loop held₀ count piece from stop at₀ i₀ held at i = (i ≤ stop) × (at ≡ count + (i - from)) × Filled piece from count held₀ i held
+Inv-loop count held₀ piece from stop at₀ i₀ held at i = (i ≤ stop) × (at ≡ count + (i - from)) × Filled count held₀ piece from i held
 
 abbrev μ-loop : tie.MeasureT-loop
-μ-loop held₀ count piece from stop at₀ i₀ held at i = stop - i
+μ-loop count held₀ piece from stop at₀ i₀ held at i = stop - i
 
 loop-holds : tie.Need-loop-holds Inv-loop μ-loop
 loop-holds c =
     let a = c .args in
-    (omega arith, omega arith, filled-none (a .piece .now) (a .from) (a .count) (a .held .now) (omega arith) (omega arith))
+    (omega arith, omega arith, filled-none (a .count) (a .held .now) (a .piece .now) (a .from) (omega arith) (omega arith))
 
 shared-slice-read-b : tie.Need-shared-slice-read-b Inv-loop μ-loop
 shared-slice-read-b c = search needs
@@ -42,8 +42,8 @@ loop-again c =
     let l = c .before .before .before .loop in
     let a = c .before .before .before .before .args in
     let f = l .inv .2 in
-    let one = filled-one (a .piece .now) (l .i) (l .at) (l .held) (omega arith) (omega (arith, f .forward)) (plain-of _ (c .if1 .left)) in
-    (omega arith, omega (arith, f .forward), filled-more (a .piece .now) (a .from) (a .count) (a .held .now) (l .i) (l .held) (l .at) _ _ (l .inv .1) f one)
+    let one = filled-one (l .at) (l .held) (a .piece .now) (l .i) (omega arith) (omega (arith, f .forward)) (plain-of _ (c .if1 .left)) in
+    (omega arith, omega (arith, f .forward), filled-more (a .count) (a .held .now) (a .piece .now) (a .from) (l .i) (l .held) (l .at) _ _ (l .inv .1) f one)
 
 returns : tie.Need-returns Inv-loop μ-loop
 returns c = (c .before .loop .inv .0, c .before .loop .inv .2)

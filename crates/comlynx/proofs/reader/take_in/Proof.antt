@@ -11,16 +11,16 @@ use Rattle.comlynx.proofs.reader.take_in.Statement.{statement}
 use Rattle.comlynx.proofs.reader.take_in.Tie as tie
 
 abbrev Inv-loop : tie.InvT-loop
-Inv-loop held₀ count piece at k₀ held k = (k ≤ 16) × Filled piece at count held₀ (at + k) held
+Inv-loop count held₀ piece at k₀ held k = (k ≤ 16) × Filled count held₀ piece at (at + k) held
 
 abbrev μ-loop : tie.MeasureT-loop
-μ-loop held₀ count piece at k₀ held k = 16 - k
+μ-loop count held₀ piece at k₀ held k = 16 - k
 
 loop-holds : tie.Need-loop-holds Inv-loop μ-loop
 loop-holds c =
     let a = c .args in
     let e : a .at ≡ a .at + 0 = omega arith in
-    (omega arith, subst (λ (j : ℕ). Filled (a .piece .now) (a .at) (a .count) (a .held .now) j (a .held .now)) e (filled-none (a .piece .now) (a .at) (a .count) (a .held .now) (omega arith) (omega arith)))
+    (omega arith, subst (λ (j : ℕ). Filled (a .count) (a .held .now) (a .piece .now) (a .at) j (a .held .now)) e (filled-none (a .count) (a .held .now) (a .piece .now) (a .at) (omega arith) (omega arith)))
 
 add-held : tie.Need-add-held Inv-loop μ-loop
 add-held c = search needs
@@ -45,16 +45,16 @@ loop-again c =
     let l = c .before .before .loop in
     let a = c .before .before .before .args in
     let b = getD (a .piece .now) (a .at + l .k) 0 in
-    let one = filled-one (a .piece .now) (a .at + l .k) (a .count + l .k) (l .held) (omega arith) (omega arith) (c .before .before .before .pre .3 (l .k) (omega arith)) in
-    let more = filled-more (a .piece .now) (a .at) (a .count) (a .held .now) (a .at + l .k) (l .held) (a .count + l .k) _ _ (omega arith) (l .inv .1) one in
-    (omega arith, subst (λ (j : ℕ). Filled (a .piece .now) (a .at) (a .count) (a .held .now) j (set (l .held) (a .count + l .k) b)) (add-assoc (a .at) (l .k) 1) more)
+    let one = filled-one (a .count + l .k) (l .held) (a .piece .now) (a .at + l .k) (omega arith) (omega arith) (c .before .before .before .pre .3 (l .k) (omega arith)) in
+    let more = filled-more (a .count) (a .held .now) (a .piece .now) (a .at) (a .at + l .k) (l .held) (a .count + l .k) _ _ (omega arith) (l .inv .1) one in
+    (omega arith, subst (λ (j : ℕ). Filled (a .count) (a .held .now) (a .piece .now) (a .at) j (set (l .held) (a .count + l .k) b)) (add-assoc (a .at) (l .k) 1) more)
 
 returns : tie.Need-returns Inv-loop μ-loop
 returns c =
     let l = c .before .loop in
     let a = c .before .before .args in
     let e : l .k ≡ 16 = omega arith in
-    subst (λ (k : ℕ). Filled (a .piece .now) (a .at) (a .count) (a .held .now) (a .at + k) (l .held)) e (l .inv .1)
+    subst (λ (k : ℕ). Filled (a .count) (a .held .now) (a .piece .now) (a .at) (a .at + k) (l .held)) e (l .inv .1)
 
 pub take-in-spec : {M : Type 1} → statement M
 take-in-spec =

@@ -11,12 +11,12 @@ use Rattle.eversolar.proofs.reader.fill.Statement.{statement}
 use Rattle.eversolar.proofs.reader.fill.Tie as tie
 
 abbrev Inv-loop : tie.InvT-loop
-Inv-loop held₀ stage count len piece from stop at₀ i₀ held at i =
+Inv-loop stage count len held₀ piece from stop at₀ i₀ held at i =
     (from ≤ i) × (i ≤ stop) × (at ≡ count + (i - from)) × (length held ≡ length held₀)
-    × (scanFrom next (holding stage len count held₀) piece from ≡ scanFrom next (holding stage len at held) piece i)
+    × (scanFrom next (holding stage count len held₀) piece from ≡ scanFrom next (holding stage at len held) piece i)
 
 abbrev μ-loop : tie.MeasureT-loop
-μ-loop held₀ stage count len piece from stop at₀ i₀ held at i = stop - i
+μ-loop stage count len held₀ piece from stop at₀ i₀ held at i = stop - i
 
 sub-least : tie.Need-sub-least Inv-loop μ-loop
 sub-least c = search needs
@@ -59,7 +59,7 @@ loop-again c =
       omega arith,
       omega arith,
       simp length-set (l .inv .3),
-      l .inv .4 ∙ from-goes next (holding (a .stage) (a .len) (l .at) (l .held)) (holding (a .stage) (a .len) (l .at + 1) (set (l .held) (l .at) (getD (a .piece .now) (l .i) 0))) (a .piece .now) (l .i) (omega arith) (keep-more (a .stage) (a .len) (l .at) (l .held) _ (omega arith) (omega arith)),
+      l .inv .4 ∙ from-goes next (holding (a .stage) (l .at) (a .len) (l .held)) (holding (a .stage) (l .at + 1) (a .len) (set (l .held) (l .at) (getD (a .piece .now) (l .i) 0))) (a .piece .now) (l .i) (omega arith) (keep-more (a .stage) (l .at) (a .len) (l .held) _ (omega arith) (omega arith)),
     )
 
 returns : tie.Need-returns Inv-loop μ-loop
@@ -71,7 +71,7 @@ returns c =
       within = omega arith;
       room = omega arith;
       sized = l .inv .3;
-      goes = l .inv .4 ∙ ap (λ (n : ℕ). scanFrom next (holding (a .stage) (a .len) n (l .held)) (a .piece .now) (l .i)) (l .inv .2);
+      goes = l .inv .4 ∙ ap (λ (n : ℕ). scanFrom next (holding (a .stage) n (a .len) (l .held)) (a .piece .now) (l .i)) (l .inv .2);
     }
 
 pub fill-spec : {M : Type 1} → statement M

@@ -13,12 +13,12 @@ use Rattle.eversolar.proofs.reader.hunt.Statement.{statement}
 use Rattle.eversolar.proofs.reader.hunt.Tie as tie
 
 abbrev Inv-loop : tie.InvT-loop
-Inv-loop piece from stage stage₀ i₀ stage' i =
+Inv-loop stage piece from stage₀ i₀ stage' i =
     (from ≤ i) × (i ≤ length piece) × (stage' < 2)
-    × ((len count : ℕ) (held : List ℕ) → scanFrom next (holding stage len count held) piece from ≡ scanFrom next (holding stage' len count held) piece i)
+    × ((count len : ℕ) (held : List ℕ) → scanFrom next (holding stage count len held) piece from ≡ scanFrom next (holding stage' count len held) piece i)
 
 abbrev μ-loop : tie.MeasureT-loop
-μ-loop piece from stage stage₀ i₀ stage' i = length piece - i
+μ-loop stage piece from stage₀ i₀ stage' i = length piece - i
 
 -- where a byte was read: the piece, how far, and the stage before it
 abbrev P : tie.After-shared-slice-known Inv-loop μ-loop → List ℕ
@@ -32,16 +32,16 @@ St c = c .before .before .loop .stage
 
 -- the byte leads to stage t
 goes : (c : tie.After-shared-slice-known Inv-loop μ-loop) (t : ℕ) → lookedOf (St c) (getD (P c) (I c) 0) ≡ t
-    → (len count : ℕ) (held : List ℕ) → scanFrom next (holding (St c) len count held) (P c) (I c) ≡ scanFrom next (holding t len count held) (P c) (I c + 1)
-goes c t e len count held =
-    from-goes next (holding (St c) len count held) (holding t len count held) (P c) (I c) (c .before .if1 .left) (look-on (St c) t len count held (getD (P c) (I c) 0) (c .before .before .loop .inv .2) e)
+    → (count len : ℕ) (held : List ℕ) → scanFrom next (holding (St c) count len held) (P c) (I c) ≡ scanFrom next (holding t count len held) (P c) (I c + 1)
+goes c t e count len held =
+    from-goes next (holding (St c) count len held) (holding t count len held) (P c) (I c) (c .before .if1 .left) (look-on (St c) t count len held (getD (P c) (I c) 0) (c .before .before .loop .inv .2) e)
 
 again : (c : tie.Else2 Inv-loop μ-loop) (t : ℕ) → t < 2 → lookedOf (St (c .before)) (getD (P (c .before)) (I (c .before)) 0) ≡ t
-    → (let a = c .before .before .before .before .args in Inv-loop (a .piece .now) (a .from) (a .stage) (a .stage) (a .from) t (I (c .before) + 1))
-again c t lt e = (omega arith, omega arith, lt, λ len count held. c .before .before .before .loop .inv .3 len count held ∙ goes (c .before) t e len count held)
+    → (let a = c .before .before .before .before .args in Inv-loop (a .stage) (a .piece .now) (a .from) (a .stage) (a .from) t (I (c .before) + 1))
+again c t lt e = (omega arith, omega arith, lt, λ count len held. c .before .before .before .loop .inv .3 count len held ∙ goes (c .before) t e count len held)
 
 loop-holds : tie.Need-loop-holds Inv-loop μ-loop
-loop-holds c = (omega arith, omega arith, omega arith, λ len count held. refl)
+loop-holds c = (omega arith, omega arith, omega arith, λ count len held. refl)
 
 shared-slice-read-b : tie.Need-shared-slice-read-b Inv-loop μ-loop
 shared-slice-read-b c = search needs
@@ -68,13 +68,13 @@ returns c =
     let k = c .before in
     let p = k .before .args .piece .now in
     let e : k .loop .i ≡ length p = omega arith in
-    (omega arith, λ len count held. k .loop .inv .3 len count held ∙ ap (λ (j : ℕ). scanFrom next (holding (k .loop .stage) len count held) p j) e)
+    (omega arith, λ count len held. k .loop .inv .3 count len held ∙ ap (λ (j : ℕ). scanFrom next (holding (k .loop .stage) count len held) p j) e)
 
 returns-2 : tie.Need-returns-2 Inv-loop μ-loop
 unfolding lookedOf
 returns-2 c =
     let k = c .before .before .before in
-    (omega arith, omega arith, λ len count held. k .loop .inv .3 len count held ∙ goes (c .before) 2 (rw (c .if2 .taken)) len count held)
+    (omega arith, omega arith, λ count len held. k .loop .inv .3 count len held ∙ goes (c .before) 2 (rw (c .if2 .taken)) count len held)
 
 pub hunt-spec : {M : Type 1} → statement M
 hunt-spec =

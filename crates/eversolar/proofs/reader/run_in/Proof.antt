@@ -24,7 +24,7 @@ use Rattle.eversolar.proofs.reader.run_in.Tie as tie
 abbrev Inv-loop : tie.InvT-loop
 Inv-loop stage count len held₀ piece stage₀ count₀ len₀ i₀ held stage' count' len' i =
     (i ≤ length piece) × Range stage' count' len' × (length held ≡ length held₀)
-    × (scanFrom next (holding stage' len' count' held) piece i ≡ scan next (holding stage len count held₀) piece)
+    × (scanFrom next (holding stage' count' len' held) piece i ≡ scan next (holding stage count len held₀) piece)
 
 abbrev μ-loop : tie.MeasureT-loop
 μ-loop stage count len held₀ piece stage₀ count₀ len₀ i₀ held stage' count' len' i = length piece - i
@@ -36,15 +36,15 @@ seeking c = c .before .before .before
 idle : (c : tie.After-hunt Inv-loop μ-loop) → (seeking c .loop .count ≡ 0) × (seeking c .loop .len ≡ 0)
 idle c = range-idle _ _ _ (seeking c .loop .inv .1) (c .before .if1 .taken)
 
-hunted : (c : tie.After-hunt Inv-loop μ-loop) (p : HuntEnd) → c .hunt .result ≡ p → Hunted (seeking c .before .before .args .piece .now) (seeking c .loop .i) (seeking c .loop .stage) p
-hunted c p e = subst (Hunted (seeking c .before .before .args .piece .now) (seeking c .loop .i) (seeking c .loop .stage)) e (c .hunt .ensures)
+hunted : (c : tie.After-hunt Inv-loop μ-loop) (p : HuntEnd) → c .hunt .result ≡ p → Hunted (seeking c .loop .stage) (seeking c .before .before .args .piece .now) (seeking c .loop .i) p
+hunted c p e = subst (Hunted (seeking c .loop .stage) (seeking c .before .before .args .piece .now) (seeking c .loop .i)) e (c .hunt .ensures)
 
 -- where a byte's move is known: the loop's place, the state before the byte, the piece, how far, and the whole call
 abbrev at : tie.After-advance Inv-loop μ-loop → tie.At-loop Inv-loop μ-loop
 at c = c .before .before .before .before
 
 abbrev St : tie.After-advance Inv-loop μ-loop → Reader
-St c = let l = at c .loop in holding (l .stage) (l .len) (l .count) (l .held)
+St c = let l = at c .loop in holding (l .stage) (l .count) (l .len) (l .held)
 
 abbrev P : tie.After-advance Inv-loop μ-loop → List ℕ
 P c = at c .before .before .args .piece .now
@@ -53,7 +53,7 @@ abbrev I : tie.After-advance Inv-loop μ-loop → ℕ
 I c = at c .loop .i
 
 abbrev Whole : tie.After-advance Inv-loop μ-loop → Called Reader (Event Message)
-Whole c = let a = at c .before .before .args in scan next (holding (a .stage) (a .len) (a .count) (a .held .now)) (P c)
+Whole c = let a = at c .before .before .args in scan next (holding (a .stage) (a .count) (a .len) (a .held .now)) (P c)
 
 -- what was read is a byte
 byte : (c : tie.After-advance Inv-loop μ-loop) → getD (P c) (I c) 0 < 256
@@ -81,7 +81,7 @@ loop-holds c =
       omega arith,
       range-of (a .stage) (a .count) (a .len) (c .before .pre .0),
       refl,
-      from-start next (holding (a .stage) (a .len) (a .count) (a .held .now)) (a .piece .now),
+      from-start next (holding (a .stage) (a .count) (a .len) (a .held .now)) (a .piece .now),
     )
 
 hunt-requires : tie.Need-hunt-requires Inv-loop μ-loop
@@ -99,7 +99,7 @@ loop-again c =
     let w = hunted k (Found _) (c .before .found .given .1) in
     let l = seeking k .loop in
     let r = idle k in
-    (w .1, lead refl (omega arith) (r .1), l .inv .2, sym (w .2 (l .len) (l .count) (l .held)) ∙ l .inv .3)
+    (w .1, lead refl (omega arith) (r .1), l .inv .2, sym (w .2 (l .count) (l .len) (l .held)) ∙ l .inv .3)
 
 enum-known-found-2 : tie.Need-enum-known-found-2 Inv-loop μ-loop
 enum-known-found-2 c = search needs
@@ -113,7 +113,7 @@ loop-again-2 c =
     let w = hunted k (AtEnd _) (c .before .found2 .given .1) in
     let l = seeking k .loop in
     let r = idle k in
-    (omega arith, look (w .0) (r .0) (r .1), l .inv .2, sym (w .1 (l .len) (l .count) (l .held)) ∙ l .inv .3)
+    (omega arith, look (w .0) (r .0) (r .1), l .inv .2, sym (w .1 (l .count) (l .len) (l .held)) ∙ l .inv .3)
 
 shared-slice-read-b : tie.Need-shared-slice-read-b Inv-loop μ-loop
 shared-slice-read-b c = search needs
@@ -202,7 +202,7 @@ returns-2 c =
       sized = l .inv .2;
       fits = tt;
       ranged = in-range _ _ _ (l .inv .1);
-      scanned = sym (l .inv .3) ∙ from-end next (holding (l .stage) (l .len) (l .count) (l .held)) (c .before .before .before .args .piece .now) (l .i) (c .loop-test .left);
+      scanned = sym (l .inv .3) ∙ from-end next (holding (l .stage) (l .count) (l .len) (l .held)) (c .before .before .before .args .piece .now) (l .i) (c .loop-test .left);
     }
 
 pub run-in-spec : {M : Type 1} → statement M

@@ -14,12 +14,12 @@ use Rattle.fronius.proofs.reader.fill.Statement.{statement}
 use Rattle.fronius.proofs.reader.fill.Tie as tie
 
 abbrev Inv-loop : tie.InvT-loop
-Inv-loop held₀ count len piece from stop at₀ i₀ held at i =
+Inv-loop count len held₀ piece from stop at₀ i₀ held at i =
     (from ≤ i) × (i ≤ stop) × (at ≡ count + (i - from)) × (length held ≡ length held₀)
-    × (scanFrom next (filling len count held₀) piece from ≡ scanFrom next (filling len at held) piece i)
+    × (scanFrom next (filling count len held₀) piece from ≡ scanFrom next (filling at len held) piece i)
 
 abbrev μ-loop : tie.MeasureT-loop
-μ-loop held₀ count len piece from stop at₀ i₀ held at i = stop - i
+μ-loop count len held₀ piece from stop at₀ i₀ held at i = stop - i
 
 sub-least : tie.Need-sub-least Inv-loop μ-loop
 sub-least c = search needs
@@ -62,7 +62,7 @@ loop-again c =
       omega arith,
       omega arith,
       simp length-set (l .inv .3),
-      l .inv .4 ∙ from-goes next (filling (a .len) (l .at) (l .held)) (filling (a .len) (l .at + 1) (set (l .held) (l .at) (getD (a .piece .now) (l .i) 0))) (a .piece .now) (l .i) (omega arith) (fill-more (a .len) (l .at) (l .held) _ (omega arith)),
+      l .inv .4 ∙ from-goes next (filling (l .at) (a .len) (l .held)) (filling (l .at + 1) (a .len) (set (l .held) (l .at) (getD (a .piece .now) (l .i) 0))) (a .piece .now) (l .i) (omega arith) (fill-more (l .at) (a .len) (l .held) _ (omega arith)),
     )
 
 returns : tie.Need-returns Inv-loop μ-loop
@@ -74,7 +74,7 @@ returns c =
       within = omega arith;
       room = omega arith;
       sized = l .inv .3;
-      goes = l .inv .4 ∙ ap (λ (n : ℕ). scanFrom next (filling (a .len) n (l .held)) (a .piece .now) (l .i)) (l .inv .2);
+      goes = l .inv .4 ∙ ap (λ (n : ℕ). scanFrom next (filling n (a .len) (l .held)) (a .piece .now) (l .i)) (l .inv .2);
     }
 
 pub fill-spec : {M : Type 1} → statement M

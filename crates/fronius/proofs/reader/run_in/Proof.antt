@@ -143,7 +143,7 @@ loop-again-3 c =
     let h = asks k Keep e in
     let l = at k .loop in
     let f = c .fill .ensures in
-    let later = c .fill .last .0 in
+    let later = c .fill .last .1 .1 .0 in
     let j = c .fill .result in
     let n = l .count + 1 + (j - (l .i + 1)) in (
       f .within,
