@@ -2,52 +2,35 @@
 -- Assumes nothing.
 use Prim.Native.Nat.{ℕ, _+_, _-_, _*_, _≤_, _<_}
 use mathlib.Core.Path.{_≡_, refl, sym, ap, _∙_}
-use mathlib.Core.Bool.{Bool, true, false, cond, _&&_}
-use mathlib.Core.List.{List, _++_}
+use mathlib.Core.Bool.{Bool, true, false, _&&_}
+use mathlib.Core.List.{List}
 use lib.ListN.{length, take, drop, getD, length-drop}
 use lib.Seq.{getD-take, length-take-le, take-take}
 use lib.Dec.{eqb, leb}
 use borrow.Author.Tests.{eq-eqb, ne-eqb, leb-true}
 use native.Mathlib.Omega.{arith}
-use Rattle.answers.proofs.NumbersHaveCases.{refusals, damages}
+use Rattle.answers.specs.Answer.{need}
 use Rattle.answers.specs.declared.Damage.the-variants.{WrongBodyLength, WrongStart, WrongSize, WrongSum}
 use Rattle.comlynx_checksum.specs.Checksum.{checksumOf, agrees, IsSentOf}
 use Rattle.comlynx_checksum.specs.declared.Sent.{Sent}
 use Rattle.comlynx_checksum.proofs.SentAgrees.{agrees-by-bytes, sent-low, sent-high}
 use Rattle.stream.proofs.ListLaws.{drop-take}
-use Rattle.stream.specs.Event.{message, damage, Told, done, gives, refuses}
+use Rattle.stream.specs.Event.{message, damage, Told, gives}
 use Rattle.stream.specs.Call.{retold, delivered}
-use Rattle.comlynx.specs.Wire.{Message, messageOf, bodyMax, bodyLeast}
+use Rattle.stream.proofs.HeldIsDelivered.{Delivers, delivers-held, delivers-told}
+use Rattle.comlynx.specs.Wire.{Message, payloadMax, bodyLeast, bodyMax, messageOf}
 use Rattle.comlynx.specs.Rules.{sized, begins, judged}
 use Rattle.comlynx.specs.Machine.{closed}
 use Rattle.comlynx.specs.Reader.{told, header}
 use Rattle.comlynx.specs.Inside.{due, JudgedAs, Judges, Small, given}
 use Rattle.comlynx.specs.declared.reader.Header.{Header}
 use Rattle.comlynx.specs.declared.reader.Answer.{Answer}
-use Rattle.comlynx.specs.declared.reader.Answer.the-variants.{Done, Message as Read, Damaged, Refused}
+use Rattle.comlynx.specs.declared.reader.Answer.the-variants.{Message as Read, Damaged}
 use Rattle.comlynx.proofs.StageRanges.{false-true}
 
 -- the header that is read off the held bytes
 abbrev pub heldHeader : ℕ → List ℕ → Header
 heldHeader len held = record { source = getD held 2 0 * 256 + getD held 3 0; destination = getD held 4 0 * 256 + getD held 5 0; kind = getD held 7 0; len = len }
-
--- ---- what is told alike is one: by the way back
-
-back : Told Header → Answer
-back done = Done
-back (gives (message h)) = Read h
-back (gives (damage n)) = Damaged (damages .back n)
-back (refuses n) = Refused (refusals .back n)
-
-back-told : (a : Answer) → back (told a) ≡ a
-unfolding back
-back-told Done = refl
-back-told (Read h) = refl
-back-told (Damaged d) = ap Damaged (damages .case d)
-back-told (Refused r) = ap Refused (refusals .case r)
-
-pub told-alike : (a b : Answer) → told a ≡ told b → a ≡ b
-told-alike a b e = sym (back-told a) ∙ ap back e ∙ back-told b
 
 -- ---- a length in bounds
 
@@ -146,26 +129,27 @@ closes n sum held d full e s = go (sized n) refl
 
 -- ---- what is told of a stretch, delivered
 
-pub delivers : (n : ℕ) (right : Bool) (held lent : List ℕ) (a : Answer) → length held ≡ bodyMax → JudgedAs (judged n right (take n held)) a
-    → Small a × (given a held lent ≡ delivered (λ (m : Message). m .payload) (gives (judged n right (take n held))) lent)
+abbrev DeliversTo : List ℕ → List ℕ → Told Message → Type 0
+DeliversTo held lent t = Delivers header (λ m. m .payload) (λ h. h .len) payloadMax 8 held lent (retold header t) t
+
+stretch-delivers : (n : ℕ) (right : Bool) (held lent : List ℕ) → length held ≡ bodyMax → DeliversTo held lent (gives (judged n right (take n held)))
 unfolding judged
-delivers n right held lent a full e = go (sized n) (begins (take n held)) (eqb (getD (take n held) 6 0) (n - bodyLeast)) right refl e
+stretch-delivers n right held lent full = go (sized n) (begins (take n held)) (eqb (getD (take n held) 6 0) (n - bodyLeast)) right refl
   where
     m : Message
     m = messageOf (take n held)
 
     go : (f s z r : Bool) → sized n ≡ f
-        → told a ≡ retold header (gives (cond f (cond s (cond z (cond r (message m) (damage 6)) (damage 5)) (damage 4)) (damage 3)))
-        → Small a × (given a held lent ≡ delivered (λ (m : Message). m .payload) (gives (cond f (cond s (cond z (cond r (message m) (damage 6)) (damage 5)) (damage 4)) (damage 3))) lent)
-    go false s z r f e = rw (told-alike a (Damaged WrongBodyLength) e) (tt, refl)
-    go true false z r f e = rw (told-alike a (Damaged WrongStart) e) (tt, refl)
-    go true true false r f e = rw (told-alike a (Damaged WrongSize) e) (tt, refl)
-    go true true true false f e = rw (told-alike a (Damaged WrongSum) e) (tt, refl)
-    go true true true true f e =
+        → DeliversTo held lent (gives (need f (damage 3) (need s (damage 4) (need z (damage 5) (need r (damage 6) (message m))))))
+    go false s z r f = (tt, refl)
+    go true false z r f = (tt, refl)
+    go true true false r f = (tt, refl)
+    go true true true false f = (tt, refl)
+    go true true true true f =
         let count : length (m .payload) ≡ n - bodyLeast = held-length n held full f in
-        let payload : m .payload ≡ take (n - bodyLeast) (drop 8 held) = held-bytes n held full f in
-        let is : a ≡ Read (header m) = told-alike a (Read (header m)) e in
-        rw is (
-          omega (arith, count, sized-bounds n f .1),
-          ap (λ (k : ℕ). take k (drop 8 held) ++ drop (length (m .payload)) lent) count ∙ ap (λ (d : List ℕ). d ++ drop (length (m .payload)) lent) (sym payload),
-        )
+        delivers-held header (λ m. m .payload) (λ h. h .len) payloadMax 8 held lent m (omega (arith, count, sized-bounds n f .1))
+        (ap (λ (k : ℕ). take k (drop 8 held)) count ∙ sym (held-bytes n held full f))
+
+pub delivers : (n : ℕ) (right : Bool) (held lent : List ℕ) (a : Answer) → length held ≡ bodyMax → JudgedAs (judged n right (take n held)) a
+    → Small a × (given a held lent ≡ delivered (λ (m : Message). m .payload) (gives (judged n right (take n held))) lent)
+delivers n right held lent a full e = delivers-told header (λ m. m .payload) (λ h. h .len) payloadMax 8 held lent (told a) (gives (judged n right (take n held))) e (stretch-delivers n right held lent full)

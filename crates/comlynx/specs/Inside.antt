@@ -1,22 +1,23 @@
--- What the inner functions promise. No public promise cites these.
+-- What the inner functions promise. No public promise cites this file: it need not be read.
 use Prim.Native.Nat.{ℕ, _+_, _-_, _≤_, _<_}
 use mathlib.Core.Path.{_≡_}
 use mathlib.Core.Bool.{Bool, true, _&&_}
 use mathlib.Core.Option.{Option, none, some}
 use mathlib.Core.List.{List, [], _∷_, _++_}
-use lib.ListN.{length, take, drop, getD}
+use lib.ListN.{length, take, getD}
 use lib.Seq.{sets}
 use lib.Dec.{eqb}
 use Rattle.stream.specs.Event.{Event, damage}
 use Rattle.stream.specs.Event as Event
 use Rattle.stream.specs.Call.{retold}
 use Rattle.stream.specs.Pieces.{scan, scanFrom}
+use Rattle.stream.specs.Delivery as Delivery
 use Rattle.comlynx.specs.Wire.{Message, payloadMax, flag, escape, stuffed, bodyMax}
 use Rattle.comlynx.specs.Rules.{judged}
 use Rattle.comlynx.specs.Machine.{inside, inRange, closed, next}
 use Rattle.comlynx.specs.Reader.{told, header}
+use Rattle.comlynx.specs.declared.reader.Header.{Header}
 use Rattle.comlynx.specs.declared.reader.Answer.{Answer}
-use Rattle.comlynx.specs.declared.reader.Answer.the-variants.{Done, Message as Read, Damaged, Refused}
 use Rattle.comlynx.specs.declared.reader.Ran.{Ran}
 use Rattle.comlynx.specs.declared.reader.End.{End}
 use Rattle.comlynx.specs.declared.reader.End.the-variants.{UsedUp, Closed, Broken}
@@ -61,19 +62,12 @@ JudgedAs event answer = told answer ≡ retold header (Event.outcome (some event
 abbrev pub Judges : ℕ → ℕ → ℕ → List ℕ → Answer → Type 0
 Judges count low high held = JudgedAs (judged count (due count low high held) (take count held))
 
--- a length that is told is one that a message has
+-- `deliver`: a length that is told is one that a message has, and this is the lent buffer afterwards
 abbrev pub Small : Answer → Type 0
-Small Done = Unit {0}
-Small (Read h) = h .len ≤ payloadMax
-Small (Damaged what) = Unit {0}
-Small (Refused why) = Unit {0}
+Small answer = Delivery.Small (λ (h : Header). h .len) payloadMax (told answer)
 
--- `deliver`: the lent buffer afterwards
 abbrev pub given : Answer → List ℕ → List ℕ → List ℕ
-given Done held lent = lent
-given (Read h) held lent = take (h .len) (drop 8 held) ++ drop (h .len) lent
-given (Damaged what) held lent = lent
-given (Refused why) held lent = lent
+given answer = Delivery.given (λ (h : Header). h .len) 8 (told answer)
 
 -- ---- the writer
 

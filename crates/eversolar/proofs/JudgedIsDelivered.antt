@@ -1,19 +1,18 @@
 -- What a judged frame tells and delivers.
 -- Assumes nothing.
 use Prim.Native.Nat.{ℕ, _+_, _≤_}
-use mathlib.Core.Path.{_≡_, refl, sym, ap, _∙_}
+use mathlib.Core.Path.{_≡_, refl, sym, ap}
 use mathlib.Core.Bool.{Bool, true, false, cond}
-use mathlib.Core.List.{List, _++_}
+use mathlib.Core.List.{List}
 use lib.ListN.{length, take, drop, getD, length-drop}
 use lib.Seq.{getD-take, length-take-le}
 use lib.Dec.{eqb}
 use borrow.Author.Tests.{eq-eqb, ne-eqb}
 use native.Mathlib.Omega.{arith}
-use Rattle.answers.proofs.NumbersHaveCases.{refusals, damages}
 use Rattle.answers.specs.declared.Damage.the-variants.{WrongSum}
-use Rattle.stream.specs.Event.{Event, message, damage, Told, done, gives, refuses}
-use Rattle.stream.specs.Event as Event
+use Rattle.stream.specs.Event.{message, damage, Told, gives, outcome}
 use Rattle.stream.specs.Call.{retold, delivered}
+use Rattle.stream.proofs.HeldIsDelivered.{Delivers, delivers-held, delivers-told}
 use Rattle.eversolar_words.specs.Words.{word}
 use Rattle.eversolar.specs.Wire.{Message, payloadMax, earlierOf, checksum, messageOf}
 use Rattle.eversolar.specs.Rules.{judged}
@@ -22,7 +21,7 @@ use Rattle.eversolar.specs.Reader.{told, header}
 use Rattle.eversolar.specs.Inside.{judgedFrame, eventOf, Fits, JudgedAs, Small, given}
 use Rattle.eversolar.specs.declared.reader.Header.{Header}
 use Rattle.eversolar.specs.declared.reader.Answer.{Answer}
-use Rattle.eversolar.specs.declared.reader.Answer.the-variants.{Done, Message as Read, Damaged, Refused}
+use Rattle.eversolar.specs.declared.reader.Answer.the-variants.{Message as Read, Damaged}
 use Rattle.eversolar.specs.declared.reader.End.{End}
 use Rattle.eversolar.specs.declared.reader.End.the-variants.{UsedUp, Closed}
 
@@ -44,24 +43,6 @@ rightSum len held = checksum (earlierOf (take 6 held) len (take len (drop 7 held
 
 abbrev pub cameSum : ℕ → ℕ → List ℕ → ℕ
 cameSum len last held = word (getD held (7 + len) 0) last
-
--- ---- what is told alike is one: by the way back
-
-back : Told Header → Answer
-back done = Done
-back (gives (message h)) = Read h
-back (gives (damage n)) = Damaged (damages .back n)
-back (refuses n) = Refused (refusals .back n)
-
-back-told : (a : Answer) → back (told a) ≡ a
-unfolding back
-back-told Done = refl
-back-told (Read h) = refl
-back-told (Damaged d) = ap Damaged (damages .case d)
-back-told (Refused r) = ap Refused (refusals .case r)
-
-pub told-alike : (a b : Answer) → told a ≡ told b → a ≡ b
-told-alike a b e = sym (back-told a) ∙ ap back e ∙ back-told b
 
 -- ---- the message that is held
 
@@ -86,18 +67,20 @@ module _ (len : ℕ) (held : List ℕ) (room : 7 + len ≤ length held) where
 
 -- ---- what the end of a run delivers
 
-judged-delivers : (len : ℕ) (held lent : List ℕ) → len ≤ payloadMax → length held ≡ bodyMax → (t : Bool) → (a : Answer)
-    → told a ≡ retold header (gives (cond t (message (heldMessage len held)) (damage 6)))
-    → Small a × (given a held lent ≡ delivered (λ (m : Message). m .payload) (gives (cond t (message (heldMessage len held)) (damage 6))) lent)
-judged-delivers len held lent small full true a e =
-    let m = heldMessage len held in
-    let size : length (m .payload) ≡ len = held-length len held (omega arith) in
-    let is : a ≡ Read (header m) = told-alike a (Read (header m)) e in
-    rw is (omega arith, ap (λ (n : ℕ). take n (drop 7 held) ++ drop (length (m .payload)) lent) size)
-judged-delivers len held lent small full false a e = rw (told-alike a (Damaged WrongSum) e) (tt, refl)
+abbrev DeliversTo : List ℕ → List ℕ → Told Message → Type 0
+DeliversTo held lent t = Delivers header (λ m. m .payload) (λ h. h .len) payloadMax 7 held lent (retold header t) t
+
+end-delivers : (end : End) (held lent : List ℕ) → Fits end → length held ≡ bodyMax → DeliversTo held lent (outcome (eventOf end held))
+unfolding judged
+end-delivers UsedUp held lent f l = (tt, refl)
+end-delivers (Closed len last) held lent f l = go (eqb (cameSum len last held) (rightSum len held))
+  where
+    go : (t : Bool) → DeliversTo held lent (gives (cond t (message (heldMessage len held)) (damage 6)))
+    go true =
+        let n = held-length len held (omega arith) in
+        delivers-held header (λ m. m .payload) (λ h. h .len) payloadMax 7 held lent (heldMessage len held) (omega (arith, n)) (ap (λ (k : ℕ). take k (drop 7 held)) n)
+    go false = (tt, refl)
 
 pub delivers : (end : End) (held lent : List ℕ) (a : Answer) → Fits end → length held ≡ bodyMax → JudgedAs (eventOf end held) a
-    → Small a × (given a held lent ≡ delivered (λ (m : Message). m .payload) (Event.outcome (eventOf end held)) lent)
-unfolding judged
-delivers UsedUp held lent a f l e = rw (told-alike a Done e) (tt, refl)
-delivers (Closed len last) held lent a f l e = judged-delivers len held lent f l (eqb (cameSum len last held) (rightSum len held)) a e
+    → Small a × (given a held lent ≡ delivered (λ (m : Message). m .payload) (outcome (eventOf end held)) lent)
+delivers end held lent a f l e = delivers-told header (λ m. m .payload) (λ h. h .len) payloadMax 7 held lent (told a) (outcome (eventOf end held)) e (end-delivers end held lent f l)

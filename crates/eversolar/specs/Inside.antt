@@ -1,21 +1,22 @@
--- What the inner functions promise. No public promise cites these.
+-- What the inner functions promise. No public promise cites this file: it need not be read.
 use Prim.Native.Nat.{ℕ, _+_, _-_, _≤_, _<_}
 use mathlib.Core.Path.{_≡_}
 use mathlib.Core.Bool.{true}
 use mathlib.Core.Option.{Option, none, some}
-use mathlib.Core.List.{List, _++_}
+use mathlib.Core.List.{List}
 use lib.ListN.{length, take, drop, getD}
 use Rattle.stream.specs.Event.{Event}
 use Rattle.stream.specs.Event as Event
 use Rattle.stream.specs.Call.{retold}
 use Rattle.stream.specs.Pieces.{scan, scanFrom}
+use Rattle.stream.specs.Delivery as Delivery
 use Rattle.eversolar_words.specs.Words.{word}
 use Rattle.eversolar.specs.Wire.{Message, payloadMax}
 use Rattle.eversolar.specs.Rules.{judged}
 use Rattle.eversolar.specs.Machine.{holding, inRange, most, next}
 use Rattle.eversolar.specs.Reader.{told, header}
+use Rattle.eversolar.specs.declared.reader.Header.{Header}
 use Rattle.eversolar.specs.declared.reader.Answer.{Answer}
-use Rattle.eversolar.specs.declared.reader.Answer.the-variants.{Done, Message as Read, Damaged, Refused}
 use Rattle.eversolar.specs.declared.reader.Ran.{Ran}
 use Rattle.eversolar.specs.declared.reader.HuntEnd.{HuntEnd}
 use Rattle.eversolar.specs.declared.reader.HuntEnd.the-variants.{Found, End as AtEnd}
@@ -65,16 +66,9 @@ pub record Runs (stage count len : ℕ) (held piece : List ℕ) (r : Ran) (later
 abbrev pub JudgedAs : Option (Event Message) → Answer → Type 0
 JudgedAs event answer = told answer ≡ retold header (Event.outcome event)
 
--- a length that is told is one that a message has
+-- `deliver`: a length that is told is one that a message has, and this is the lent buffer afterwards
 abbrev pub Small : Answer → Type 0
-Small Done = Unit {0}
-Small (Read h) = h .len ≤ payloadMax
-Small (Damaged what) = Unit {0}
-Small (Refused why) = Unit {0}
+Small answer = Delivery.Small (λ (h : Header). h .len) payloadMax (told answer)
 
--- `deliver`: the lent buffer afterwards
 abbrev pub given : Answer → List ℕ → List ℕ → List ℕ
-given Done held lent = lent
-given (Read h) held lent = take (h .len) (drop 7 held) ++ drop (h .len) lent
-given (Damaged what) held lent = lent
-given (Refused why) held lent = lent
+given answer = Delivery.given (λ (h : Header). h .len) 7 (told answer)

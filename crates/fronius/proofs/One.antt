@@ -1,25 +1,46 @@
 -- For each public call: two results, and two later contents of what was lent, that its promise allows are one.
 -- Assumes nothing.
 use Prim.Native.Nat.{ℕ}
-use mathlib.Core.Path.{_≡_, sym, ap, _∙_}
+use mathlib.Core.Path.{_≡_, refl, sym, ap, _∙_}
 use mathlib.Core.List.{List}
 use lib.ListN.{length}
 use lib.Dec.{ltb}
+use Rattle.numbers.proofs.Alike.{alike-by-back}
 use Rattle.answers.specs.declared.Written.{Written}
+use Rattle.answers.proofs.NumbersHaveCases.{refusals, damages}
 use Rattle.answers.proofs.WriterPromise.{writes-one}
+use Rattle.stream.specs.Event.{message, damage, Told, done, gives, refuses}
 use Rattle.stream.specs.Call.{Seen}
 use Rattle.stream.proofs.PromiseOfStep.{steps-one}
 use Rattle.fronius.specs.Wire.{payloadMax, wire}
 use Rattle.fronius.specs.Machine.{next}
-use Rattle.fronius.specs.Reader.{inRange, header, shown, IsFresh, IsStep}
+use Rattle.fronius.specs.Reader.{inRange, header, told, shown, IsFresh, IsStep}
 use Rattle.fronius.specs.Writer.{IsWritten}
 use Rattle.fronius.specs.declared.reader.Reader.{Reader}
 use Rattle.fronius.specs.declared.reader.Header.{Header}
 use Rattle.fronius.specs.declared.reader.Step.{Step}
-use Rattle.fronius.proofs.JudgedIsDelivered.{told-alike}
+use Rattle.fronius.specs.declared.reader.Answer.{Answer}
+use Rattle.fronius.specs.declared.reader.Answer.the-variants.{Done, Message as Read, Damaged, Refused}
 
 pub fresh-one : (r s : Reader) → IsFresh r → IsFresh s → r ≡ s
 fresh-one r s x y = x ∙ sym y
+
+-- what is told has a way back, so answers that are told alike are one
+back : Told Header → Answer
+back done = Done
+back (gives (message h)) = Read h
+back (gives (damage n)) = Damaged (damages .back n)
+back (refuses n) = Refused (refusals .back n)
+
+back-told : (a : Answer) → back (told a) ≡ a
+unfolding back
+back-told Done = refl
+back-told (Read h) = refl
+back-told (Damaged d) = ap Damaged (damages .case d)
+back-told (Refused r) = ap Refused (refusals .case r)
+
+told-alike : (a b : Answer) → told a ≡ told b → a ≡ b
+told-alike = alike-by-back told back back-told
 
 -- a step that is shown alike is one
 shown-alike : (q r : Step) → shown q ≡ shown r → q ≡ r

@@ -1,20 +1,21 @@
--- What the inner functions of the reader promise. No public promise cites these.
+-- What the inner functions promise. No public promise cites this file: it need not be read.
 use Prim.Native.Nat.{ℕ, _+_, _-_, _≤_}
 use mathlib.Core.Path.{_≡_}
 use mathlib.Core.Bool.{true}
 use mathlib.Core.Option.{Option, none, some}
-use mathlib.Core.List.{List, [], _∷_, _++_}
-use lib.ListN.{length, take, drop}
+use mathlib.Core.List.{List, [], _∷_}
+use lib.ListN.{length, take}
 use Rattle.stream.specs.Event.{Event, damage}
 use Rattle.stream.specs.Event as Event
 use Rattle.stream.specs.Call.{retold}
 use Rattle.stream.specs.Pieces.{scan, scanFrom}
+use Rattle.stream.specs.Delivery as Delivery
 use Rattle.fronius.specs.Wire.{Message, payloadMax, mark}
 use Rattle.fronius.specs.Rules.{judged}
 use Rattle.fronius.specs.Machine.{filling, inRange, next}
 use Rattle.fronius.specs.Reader.{told, header}
+use Rattle.fronius.specs.declared.reader.Header.{Header}
 use Rattle.fronius.specs.declared.reader.Answer.{Answer}
-use Rattle.fronius.specs.declared.reader.Answer.the-variants.{Done, Message as Read, Damaged, Refused}
 use Rattle.fronius.specs.declared.reader.Ran.{Ran}
 use Rattle.fronius.specs.declared.reader.End.{End}
 use Rattle.fronius.specs.declared.reader.End.the-variants.{UsedUp, Closed, BadLength}
@@ -56,19 +57,12 @@ pub record Runs (stage count len : ℕ) (held piece : List ℕ) (r : Ran) (later
 abbrev pub JudgedAs : Option (Event Message) → Answer → Type 0
 JudgedAs event answer = told answer ≡ retold header (Event.outcome event)
 
--- a length that is told is one that a message has
+-- `deliver`: a length that is told is one that a message has, and this is the lent buffer afterwards
 abbrev pub Small : Answer → Type 0
-Small Done = Unit {0}
-Small (Read h) = h .len ≤ payloadMax
-Small (Damaged what) = Unit {0}
-Small (Refused why) = Unit {0}
+Small answer = Delivery.Small (λ (h : Header). h .len) payloadMax (told answer)
 
--- `deliver`: the lent buffer afterwards
 abbrev pub given : Answer → List ℕ → List ℕ → List ℕ
-given Done held lent = lent
-given (Read h) held lent = take (h .len) (drop 3 held) ++ drop (h .len) lent
-given (Damaged what) held lent = lent
-given (Refused why) held lent = lent
+given answer = Delivery.given (λ (h : Header). h .len) 3 (told answer)
 
 -- `put_head`: all that stands before the data
 abbrev pub lead : ℕ → ℕ → ℕ → ℕ → List ℕ

@@ -2,11 +2,11 @@
 use answers::Damage;
 use answers::Refusal;
 use numbers::least;
-ghost use Prim.Native.Nat.{_+_, _*_, _%_, _≤_};
+ghost use Prim.Native.Nat.{_+_, _%_, _≤_};
 ghost use mathlib.Core.Path.{_≡_};
 ghost use mathlib.Core.Bool.{true};
-ghost use mathlib.Core.List.{_∷_, _++_};
-ghost use lib.ListN.{length, take, drop};
+ghost use mathlib.Core.List.{_∷_};
+ghost use lib.ListN.{length, take};
 ghost use Rattle.stream.specs.Call.{lentLeast};
 ghost use Rattle.fronius.specs.Wire.{payloadMax, checksum};
 ghost use Rattle.numbers.specs.Lists.{total};

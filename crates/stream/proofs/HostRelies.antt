@@ -4,8 +4,8 @@
 use Prim.Native.Nat.{ℕ, _≤_, _<_}
 use mathlib.Core.Path.{_≡_, sym, ap, _∙_, subst}
 use mathlib.Core.Bool.{Bool, true, false, cond}
-use mathlib.Core.List.{List, _++_}
-use lib.ListN.{length, drop, length-append, length-drop}
+use mathlib.Core.List.{List}
+use lib.ListN.{length, length-append, length-drop}
 use lib.Dec.{ltb}
 use native.Mathlib.Omega.{arith}
 use Rattle.stream.specs.Event.{Event, message, damage, Told, done, gives, refuses}

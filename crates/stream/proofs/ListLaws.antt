@@ -4,7 +4,7 @@ use Prim.Native.Nat.{ℕ, zero, suc, _+_, _-_, _≤_}
 use mathlib.Core.Path.{_≡_, sym, ap, _∙_}
 use mathlib.Core.List.{List, [], _∷_, _++_, append-nil, append-assoc}
 use lib.ListN.{length, take, drop, set, length-drop, drop-of-length-le}
-use lib.Seq.{take-nil, take-all, take-length, length-take-le, drop-drop, sets, sets-eq}
+use lib.Seq.{take-nil, take-all, take-length, drop-drop, sets, sets-eq}
 use native.Mathlib.Nat.{add-zero, zero-add, add-suc, suc-add, le-refl}
 use borrow.Rule.Slice.PartMut.{putMid}
 use native.Mathlib.Omega.{arith}
@@ -15,13 +15,12 @@ drop-take (suc n) k [] = rw (suc-add, take-nil)
 drop-take (suc n) k (x ∷ l) = rw suc-add (drop-take n k l)
 
 -- the part of h from `at` to `at + n`, copied whole to the front of l
-pub part-front : (h l : List ℕ) (at n : ℕ) → at + n ≤ length h
-    → (let part : List ℕ = take (at + n - at) (drop at h) in take (length part) part ++ drop (length part) l ≡ take n (drop at h) ++ drop n l)
-part-front h l at n room =
+pub part-front : (h l : List ℕ) (at n : ℕ)
+    → (let part : List ℕ = take (at + n - at) (drop at h) in take (length part) part ++ drop (length part) l ≡ take n (drop at h) ++ drop (length (take n (drop at h))) l)
+part-front h l at n =
     let e : at + n - at ≡ n = omega arith in
     let x : List ℕ = take n (drop at h) in
-    let k : length x ≡ n = length-take-le n (drop at h) (simp length-drop (omega arith)) in
-    rw e (ap (λ (y : List ℕ). y ++ drop (length x) l) (take-length x) ∙ ap (λ (j : ℕ). x ++ drop j l) k)
+    rw e (ap (λ (y : List ℕ). y ++ drop (length x) l) (take-length x))
 
 -- all of src, copied into the part of l from `at` on
 pub part-put : (l m src : List ℕ) (at : ℕ) → at + length src ≤ length l → m ≡ take (length src) src ++ drop (length src) (take (length l - at) (drop at l))

@@ -5,3 +5,4 @@ pub mod Written
 pub mod Rule
 pub mod Family
 pub mod Demands
+pub mod Delivery

@@ -49,7 +49,7 @@ returns c =
     let k = c .before .before .before .before .before .before in
     let a = k .before .before .before .before .args in
     let n = k .answer .given .0 .0 .len in
-    c .before .before .copy .ensures .1 ∙ part-front (a .held .now) (a .lent .now) 8 n (omega (arith, small-at k))
+    c .before .before .copy .ensures .1 ∙ part-front (a .held .now) (a .lent .now) 8 n
     ∙ ap (λ (x : Answer). given x (a .held .now) (a .lent .now)) (sym (k .answer .given .1))
 
 returns-2 : tie.Need-returns-2

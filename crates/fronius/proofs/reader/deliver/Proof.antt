@@ -3,6 +3,7 @@
 use mathlib.Core.Path.{subst}
 use lib.ListN.{length-take, length-drop}
 use Rattle.stream.proofs.ListLaws.{part-front}
+use Rattle.fronius.specs.Wire.{payloadMax}
 use Rattle.fronius.specs.Inside.{Small, given}
 use Rattle.fronius.specs.declared.reader.Answer.{Answer}
 use native.Mathlib.Omega.{arith}
@@ -12,7 +13,7 @@ use borrow.Author.Needs.{needs}
 use Rattle.fronius.proofs.reader.deliver.Statement.{statement}
 use Rattle.fronius.proofs.reader.deliver.Tie as tie
 
-small-at : (c : tie.After-answer) → c .answer .given .0 .0 .len ≤ 127
+small-at : (c : tie.After-answer) → c .answer .given .0 .0 .len ≤ payloadMax
 small-at c = subst Small (c .answer .given .1) (c .before .before .before .before .pre .0)
 
 enum-known-answer : tie.Need-enum-known-answer
@@ -50,7 +51,7 @@ returns c =
     let k = c .before .before .before .before .before .before in
     let a = k .before .before .before .before .args in
     let n = k .answer .given .0 .0 .len in
-    c .before .before .copy .ensures .1 ∙ part-front (a .held .now) (a .lent .now) 3 n (omega (arith, small-at k))
+    c .before .before .copy .ensures .1 ∙ part-front (a .held .now) (a .lent .now) 3 n
     ∙ ap (λ (x : Answer). given x (a .held .now) (a .lent .now)) (sym (k .answer .given .1))
 
 returns-2 : tie.Need-returns-2
