@@ -22,6 +22,10 @@ use Rattle.comlynx.specs.declared.reader.Ran.{Ran}
 use Rattle.comlynx.specs.declared.reader.End.{End}
 use Rattle.comlynx.specs.declared.reader.End.the-variants.{UsedUp, Closed, Broken}
 
+-- so many bytes are looked at together
+abbrev pub runLength : ℕ
+runLength = 16
+
 -- `plain`: neither of the two bytes that mean something, from `at` on for n places
 abbrev pub Plain : ℕ → Type 0
 Plain b = (b ≡ flag → ⊥) × (b ≡ escape → ⊥)

@@ -1,4 +1,11 @@
 // The streaming reader: bytes go in by pieces, messages and damages come out, whatever the pieces.
+//
+// A frame (document 000, sections 5.1 and 5.2); what stands between the flags is stuffed (5.1.1):
+//
+//     7E   | FF 03            | source | destination | size | type | data     | checksum | 7E
+//     flag | address, control | 2      | 2           | 1    | 1    | 0 to 255 | 2        | flag
+//
+// What a reader holds is the body: all between the flags, unstuffed. The checksum covers FF through the last data byte.
 use answers::Damage;
 use answers::Refusal;
 use numbers::least;
@@ -13,7 +20,7 @@ ghost use Rattle.comlynx.specs.Rules.{sized, begins};
 ghost use Rattle.comlynx.specs.Machine.{keepOf, advanceOf, inRange};
 ghost use Rattle.comlynx.specs.Wire.{bodyMax};
 ghost use Rattle.comlynx.specs.Reader.{IsFresh, IsStep};
-ghost use Rattle.comlynx.specs.Inside.{AllPlain, Filled, Runs, due, Judges, Small, given};
+ghost use Rattle.comlynx.specs.Inside.{runLength, AllPlain, Filled, Runs, due, Judges, Small, given};
 
 // The limits, named here because the reader's own constants cannot size its own array.
 const HEADER: usize = 8;
@@ -86,6 +93,19 @@ pub(crate) const FIRST: u8 = 0xff;
 
 pub(crate) const SECOND: u8 = 0x03;
 
+// Whether stage and count are in the stage's range.
+fn in_range(stage: u8, count: usize) -> bool
+    ensures { λ r. ⌜ r ≡ inRange stage count ⌝ }
+{
+    if stage == BEFORE {
+        return count == 0;
+    }
+    if BROKEN < stage {
+        return false;
+    }
+    count <= TOO_MANY
+}
+
 // What one byte asks of the reader.
 enum Move {
     // nothing
@@ -117,7 +137,7 @@ fn keep(count: usize, v: u8) -> Move
     }
 }
 
-// The one place that decides.
+// Says what a byte asks in a stage. No other function decides what a byte means.
 fn advance(stage: u8, count: usize, b: u8) -> Move
     ensures { λ r. ⌜ r ≡ advanceOf stage count b ⌝ }
 {
@@ -179,8 +199,8 @@ const RUN: usize = 16;
 
 // Whether the next RUN bytes are all plain: neither flag nor escape.
 fn plain(s: &[u8], at: usize) -> bool
-    requires { ⌜ at + 16 ≤ length (now s) ⌝ }
-    ensures { λ r. ⌜ (r ≡ true → AllPlain (now (s .entry)) at 16) ⌝ }
+    requires { ⌜ at + runLength ≤ length (now s) ⌝ }
+    ensures { λ r. ⌜ (r ≡ true → AllPlain (now (s .entry)) at runLength) ⌝ }
 {
     let mut good = true;
     let mut k: usize = 0;
@@ -194,8 +214,8 @@ fn plain(s: &[u8], at: usize) -> bool
 
 // Takes in the next RUN bytes, which are plain.
 fn take_in(count: usize, held: &mut [u8; BODY], piece: &[u8], at: usize)
-    requires { ⌜ (count + 16 ≤ bodyMax) × (at + 16 ≤ length (now piece)) × (length (now held) ≡ bodyMax) × AllPlain (now piece) at 16 ⌝ }
-    ensures { λ _. ⌜ Filled count (now (held .entry)) (now (piece .entry)) at (at + 16) (now (held .exit)) ⌝ }
+    requires { ⌜ (count + runLength ≤ bodyMax) × (at + runLength ≤ length (now piece)) × (length (now held) ≡ bodyMax) × AllPlain (now piece) at runLength ⌝ }
+    ensures { λ _. ⌜ Filled count (now (held .entry)) (now (piece .entry)) at (at + runLength) (now (held .exit)) ⌝ }
 {
     let mut k: usize = 0;
     while k < RUN {
@@ -253,7 +273,8 @@ fn fill(count: usize, held: &mut [u8; BODY], piece: &[u8], from: usize) -> usize
     fill_bytes(at, held, piece, i, stop)
 }
 
-// The piece, byte by byte, up to the flag that settles something or the end of the piece. Knows no checksum.
+// The piece, byte by byte, up to the flag that settles something or the end of the piece. It knows no checksum.
+// It is long because each move has its arm here: a call from an arm would have to lend the whole state.
 fn run_in(stage: u8, count: usize, held: &mut [u8; BODY], piece: &[u8]) -> Ran
     requires { ⌜ (inRange stage count ≡ true) × (length (now held) ≡ bodyMax) ⌝ }
     ensures { λ r. ⌜ Runs stage count (now (held .entry)) (now (piece .entry)) r (now (held .exit)) ⌝ }
@@ -295,7 +316,7 @@ fn run_in(stage: u8, count: usize, held: &mut [u8; BODY], piece: &[u8]) -> Ran
                     stage: INSIDE,
                     count: 0,
                     used: i,
-                    end: end,
+                    end,
                 };
             }
             Move::Fail => {
@@ -304,32 +325,17 @@ fn run_in(stage: u8, count: usize, held: &mut [u8; BODY], piece: &[u8]) -> Ran
                     stage: INSIDE,
                     count: 0,
                     used: i,
-                    end: end,
+                    end,
                 };
             }
         }
     }
     let end = End::UsedUp;
     Ran {
-        stage: stage,
-        count: count,
+        stage,
+        count,
         used: i,
-        end: end,
-    }
-}
-
-// Whether stage and count are in the stage's range.
-fn in_range(stage: u8, count: usize) -> bool
-    ensures { λ r. ⌜ r ≡ inRange stage count ⌝ }
-{
-    if stage == BEFORE {
-        count == 0
-    } else {
-        if stage <= BROKEN {
-            count <= TOO_MANY
-        } else {
-            false
-        }
+        end,
     }
 }
 
@@ -356,8 +362,15 @@ fn ends(count: usize, low: u8, high: u8, held: &[u8]) -> bool
     (held[count - SUM] == low) & (held[count - 1] == high)
 }
 
+// How many bytes the checksum takes: all but its own two. A stretch that is too short for them is refused for that.
+fn covered(count: usize) -> usize
+    ensures { λ r. ⌜ r ≡ count - 2 ⌝ }
+{
+    if count < SUM { 0 } else { count - SUM }
+}
+
 // The checks of a closed stretch in order, by its `count` unstuffed bytes and the two checksum bytes that are due.
-fn judge(count: usize, low: u8, high: u8, held: &[u8]) -> Answer
+fn judge_frame(count: usize, low: u8, high: u8, held: &[u8]) -> Answer
     requires { ⌜ length (now held) ≡ bodyMax ⌝ }
     ensures { λ r. ⌜ Judges count low high (now (held .entry)) r ⌝ }
 {
@@ -377,10 +390,10 @@ fn judge(count: usize, low: u8, high: u8, held: &[u8]) -> Answer
     let source = word(held[2], held[3]);
     let destination = word(held[4], held[5]);
     let header = Header {
-        source: source,
-        destination: destination,
+        source,
+        destination,
         kind: held[7],
-        len: len,
+        len,
     };
     Answer::Message(header)
 }
@@ -400,13 +413,6 @@ fn deliver(answer: Answer, held: &[u8], lent: &mut [u8])
         Answer::Damaged(_) => {}
         Answer::Refused(_) => {}
     }
-}
-
-// How many bytes the checksum takes: all but its own two. A stretch that is too short for them is refused for that.
-fn covered(count: usize) -> usize
-    ensures { λ r. ⌜ r ≡ count - 2 ⌝ }
-{
-    if count < SUM { 0 } else { count - SUM }
 }
 
 impl Reader {
@@ -431,61 +437,61 @@ impl Reader {
     }
 
     // One call on a piece: up to the first message or damage, or to the piece's end. With a message its data stand at the front of `lent`.
-    // The checksum is asked for here, once where a stretch closes.
+    // The checksum is asked for here, once where a stretch closes. The function is long because it builds its result at each of five ends: another function
+    // that built it would copy the reader.
     pub fn step(mut self, piece: &[u8], lent: &mut [u8]) -> Step
         ensures { λ r. ⌜ IsStep self (now (piece .entry)) (now (lent .entry)) r (now (lent .exit)) ⌝ }
     {
         let stage = self.stage;
         let count = self.count;
-        if in_range(stage, count) {
-            if lent.len() < Reader::LENT {
-                let answer = Answer::Refused(Refusal::NoRoom);
-                return Step {
-                    reader: self,
-                    answer: answer,
-                    used: 0,
-                };
-            }
-            let ran = run_in(stage, count, &mut self.held, piece);
-            self.stage = ran.stage;
-            self.count = ran.count;
-            let used = ran.used;
-            let end = ran.end;
-            match end {
-                End::UsedUp => {
-                    let answer = Answer::Done;
-                    Step {
-                        reader: self,
-                        answer: answer,
-                        used: used,
-                    }
-                }
-                End::Closed(n) => {
-                    let sum = comlynx_checksum::of_first(&self.held, covered(n));
-                    let due = comlynx_checksum::sent_of(sum);
-                    let answer = judge(n, due.low, due.high, &self.held);
-                    deliver(answer, &self.held, lent);
-                    Step {
-                        reader: self,
-                        answer: answer,
-                        used: used,
-                    }
-                }
-                End::Broken => {
-                    let answer = Answer::Damaged(Damage::BrokenPair);
-                    Step {
-                        reader: self,
-                        answer: answer,
-                        used: used,
-                    }
-                }
-            }
-        } else {
+        if !in_range(stage, count) {
             let answer = Answer::Refused(Refusal::Spoilt);
-            Step {
+            return Step {
                 reader: self,
-                answer: answer,
+                answer,
                 used: 0,
+            };
+        }
+        if lent.len() < Reader::LENT {
+            let answer = Answer::Refused(Refusal::NoRoom);
+            return Step {
+                reader: self,
+                answer,
+                used: 0,
+            };
+        }
+        let ran = run_in(stage, count, &mut self.held, piece);
+        self.stage = ran.stage;
+        self.count = ran.count;
+        let used = ran.used;
+        let end = ran.end;
+        match end {
+            End::UsedUp => {
+                let answer = Answer::Done;
+                Step {
+                    reader: self,
+                    answer,
+                    used,
+                }
+            }
+            End::Closed(n) => {
+                let sum = comlynx_checksum::of_first(&self.held, covered(n));
+                let due = comlynx_checksum::sent_of(sum);
+                let answer = judge_frame(n, due.low, due.high, &self.held);
+                deliver(answer, &self.held, lent);
+                Step {
+                    reader: self,
+                    answer,
+                    used,
+                }
+            }
+            End::Broken => {
+                let answer = Answer::Damaged(Damage::BrokenPair);
+                Step {
+                    reader: self,
+                    answer,
+                    used,
+                }
             }
         }
     }

@@ -23,7 +23,7 @@ use Rattle.eversolar.specs.declared.reader.HuntEnd.the-variants.{Found, 
 use Rattle.eversolar.specs.declared.reader.End.{End}
 use Rattle.eversolar.specs.declared.reader.End.the-variants.{UsedUp, Closed}
 
--- `hunt`: the call goes on behind AA 55, in the head; or there is none up to the end of the piece
+-- `hunt`: the call goes on behind AA 55, in the lead; or there is none up to the end of the piece
 abbrev pub Hunted : ℕ → List ℕ → ℕ → HuntEnd → Type 0
 Hunted stage piece i (Found j) =
     (i < j) × (j ≤ length piece) × ((count len : ℕ) (held : List ℕ) → scanFrom next (holding stage count len held) piece i ≡ scanFrom next (holding 2 count len held) piece j)

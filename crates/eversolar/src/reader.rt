@@ -1,4 +1,11 @@
 // The streaming reader: bytes go in by pieces, messages and damages come out, whatever the pieces.
+//
+// A packet (document 001, section 2.1, table 2-1; the order of the checksum's bytes by Req 03):
+//
+//     AA 55  | source | destination | control | function | length N | data        | checksum
+//     header | 2      | 2           | 1       | 1        | 1        | N, 0 to 255 | 2
+//
+// What a reader holds are the bytes after AA 55, up to and with the checksum's first. The checksum covers all bytes before it.
 use answers::Damage;
 use answers::Refusal;
 use eversolar_words::word;
@@ -19,10 +26,11 @@ pub(crate) const FIRST_MARK: u8 = 0xAA;
 
 pub(crate) const SECOND_MARK: u8 = 0x55;
 
-// The limits, named here because the reader's own constants cannot size its own array. Source, destination, control and function are six bytes; the length is the seventh.
-const SIX: usize = 6;
+// The limits, named here because the reader's own constants cannot size its own array. The length stands after source, destination, control and
+// function, and ends the header.
+const LENGTH_AT: usize = 6;
 
-const HEADER: usize = SIX + 1;
+const HEADER: usize = LENGTH_AT + 1;
 
 const PAYLOAD: usize = 255;
 
@@ -35,7 +43,7 @@ pub struct Reader {
     pub held: [u8; BODY],
     // LOOKING, MARK_SEEN, IN_LEAD or IN_BODY
     pub stage: u8,
-    // in the head and in the body the bytes held
+    // in the lead and in the body the bytes held
     pub count: usize,
     // in the body the length read
     pub len: usize,
@@ -77,6 +85,70 @@ const IN_LEAD: u8 = 2;
 
 const IN_BODY: u8 = 3;
 
+// Whether stage, count and length are in the stage's range.
+fn in_range(stage: u8, count: usize, len: usize) -> bool
+    ensures { λ r. ⌜ r ≡ inRange stage count len ⌝ }
+{
+    if stage < IN_LEAD {
+        if count != 0 {
+            return false;
+        }
+        return len == 0;
+    }
+    if stage == IN_LEAD {
+        if LENGTH_AT < count {
+            return false;
+        }
+        return len == 0;
+    }
+    if stage != IN_BODY {
+        return false;
+    }
+    if PAYLOAD < len {
+        return false;
+    }
+    if count < HEADER {
+        return false;
+    }
+    count <= HEADER + 1 + len
+}
+
+// How many bytes since AA 55 are kept before the one that tells the length, or the last.
+fn most_of(stage: u8, len: usize) -> usize
+    requires { ⌜ len ≤ payloadMax ⌝ }
+    ensures { λ r. ⌜ (r ≡ most stage len) × (r ≤ bodyMax) ⌝ }
+{
+    if stage == IN_LEAD {
+        LENGTH_AT
+    } else {
+        HEADER + 1 + len
+    }
+}
+
+// What one byte since AA 55 asks of the reader.
+enum Move {
+    // one more byte of the lead or the body
+    Keep,
+    // the length
+    Size,
+    // the checksum's second byte, which ends the frame
+    Close,
+}
+
+// Says what a byte since AA 55 asks in a stage. No other function decides what it means.
+fn advance(stage: u8, count: usize, len: usize) -> Move
+    requires { ⌜ len ≤ payloadMax ⌝ }
+    ensures { λ r. ⌜ r ≡ advanceOf stage count len ⌝ }
+{
+    if count < most_of(stage, len) {
+        return Move::Keep;
+    }
+    if stage == IN_LEAD {
+        return Move::Size;
+    }
+    Move::Close
+}
+
 // Where a hunt for AA 55 ends: at the place after the 55, or at the end of the piece, in a stage of looking.
 enum HuntEnd {
     Found(usize),
@@ -108,66 +180,6 @@ fn hunt(stage: u8, piece: &[u8], from: usize) -> HuntEnd
     found
 }
 
-// How many bytes since AA 55 are kept before the one that tells the length, or the last.
-fn most_of(stage: u8, len: usize) -> usize
-    requires { ⌜ len ≤ payloadMax ⌝ }
-    ensures { λ r. ⌜ (r ≡ most stage len) × (r ≤ bodyMax) ⌝ }
-{
-    if stage == IN_LEAD {
-        SIX
-    } else {
-        HEADER + 1 + len
-    }
-}
-
-// What one byte since AA 55 asks of the reader.
-enum Move {
-    // one more byte of the head or the body
-    Keep,
-    // the length
-    Size,
-    // the checksum's second byte, which ends the frame
-    Close,
-}
-
-// The one place that decides.
-fn advance(stage: u8, count: usize, len: usize) -> Move
-    requires { ⌜ len ≤ payloadMax ⌝ }
-    ensures { λ r. ⌜ r ≡ advanceOf stage count len ⌝ }
-{
-    if count < most_of(stage, len) {
-        return Move::Keep;
-    }
-    if stage == IN_LEAD {
-        return Move::Size;
-    }
-    Move::Close
-}
-
-// The `n` bytes of `s` from `from` on added up. 255 bytes come to less than 65,536, and in 16 bits eight are added at once.
-fn total_of(s: &[u8], from: usize, n: usize) -> usize
-    requires { ⌜ (from + n ≤ length (now s)) × (n ≤ payloadMax) × (from ≤ payloadMax) ⌝ }
-    ensures { λ r. ⌜ (r ≡ total (take n (drop from (now (s .entry))))) × (r ≤ 256 * n) ⌝ }
-{
-    let mut sum: u16 = 0;
-    let mut i: usize = 0;
-    while i < n {
-        sum += s[from + i] as u16;
-        i += 1;
-    }
-    sum as usize
-}
-
-// The checksum of a frame by its length and the bytes since AA 55 at the front of `s`. The length is not looked up in `s`, where a reader may have left anything.
-pub(crate) fn checksum_of(len: usize, s: &[u8]) -> u16
-    requires { ⌜ (7 + len ≤ length (now s)) × (len ≤ payloadMax) ⌝ }
-    ensures { λ r. ⌜ r ≡ checksum (earlierOf (take 6 (now (s .entry))) len (take len (drop 7 (now (s .entry))))) ⌝ }
-{
-    let marks = FIRST_MARK as usize + SECOND_MARK as usize;
-    let sum = marks + len + total_of(s, 0, SIX) + total_of(s, HEADER, len);
-    (sum % 65536) as u16
-}
-
 // How a run over a piece ended.
 enum End {
     UsedUp,
@@ -184,7 +196,7 @@ struct Ran {
     end: End,
 }
 
-// Takes in bytes from `from` on, which need no look, as many as are kept and the piece has; gives the place after the last.
+// Takes in bytes from `from` on, whatever they are: as many as are kept and the piece has. Gives the place after the last.
 fn fill(
     stage: u8,
     count: usize,
@@ -208,6 +220,7 @@ fn fill(
 }
 
 // The piece up to the end of a frame or the end of the piece.
+// It is long because each move has its arm here: a call from an arm would have to lend the whole state.
 fn run_in(stage: u8, count: usize, len: usize, held: &mut [u8; BODY], piece: &[u8]) -> Ran
     requires { ⌜ (inRange stage count len ≡ true) × (length (now held) ≡ bodyMax) ⌝ }
     ensures { λ r. ⌜ Runs stage count len (now (held .entry)) (now (piece .entry)) r (now (held .exit)) ⌝ }
@@ -242,19 +255,19 @@ fn run_in(stage: u8, count: usize, len: usize, held: &mut [u8; BODY], piece: &[u
                     i = j;
                 }
                 Move::Size => {
-                    held[SIX] = b;
+                    held[LENGTH_AT] = b;
                     stage = IN_BODY;
                     count = HEADER;
                     len = b as usize;
                 }
                 Move::Close => {
-                    let end = End::Closed { len: len, last: b };
+                    let end = End::Closed { len, last: b };
                     return Ran {
                         stage: LOOKING,
                         count: 0,
                         len: 0,
                         used: i,
-                        end: end,
+                        end,
                     };
                 }
             }
@@ -262,39 +275,36 @@ fn run_in(stage: u8, count: usize, len: usize, held: &mut [u8; BODY], piece: &[u
     }
     let end = End::UsedUp;
     Ran {
-        stage: stage,
-        count: count,
-        len: len,
+        stage,
+        count,
+        len,
         used: i,
-        end: end,
+        end,
     }
 }
 
-// Whether stage, count and length are in the stage's range.
-fn in_range(stage: u8, count: usize, len: usize) -> bool
-    ensures { λ r. ⌜ r ≡ inRange stage count len ⌝ }
+// The `n` bytes of `s` from `from` on added up. 255 bytes come to less than 65,536, and in 16 bits eight are added at once.
+fn total_of(s: &[u8], from: usize, n: usize) -> usize
+    requires { ⌜ (from + n ≤ length (now s)) × (n ≤ payloadMax) × (from ≤ payloadMax) ⌝ }
+    ensures { λ r. ⌜ (r ≡ total (take n (drop from (now (s .entry))))) × (r ≤ 256 * n) ⌝ }
 {
-    if stage < IN_LEAD {
-        if count == 0 { len == 0 } else { false }
-    } else {
-        if stage == IN_LEAD {
-            if count <= SIX { len == 0 } else { false }
-        } else {
-            if stage == IN_BODY {
-                if len <= PAYLOAD {
-                    if HEADER <= count {
-                        count <= HEADER + 1 + len
-                    } else {
-                        false
-                    }
-                } else {
-                    false
-                }
-            } else {
-                false
-            }
-        }
+    let mut sum: u16 = 0;
+    let mut i: usize = 0;
+    while i < n {
+        sum += s[from + i] as u16;
+        i += 1;
     }
+    sum as usize
+}
+
+// The checksum of a frame by its length and the bytes since AA 55 at the front of `s`. The length is not looked up in `s`, where a reader may have left anything.
+pub(crate) fn checksum_of(len: usize, s: &[u8]) -> u16
+    requires { ⌜ (7 + len ≤ length (now s)) × (len ≤ payloadMax) ⌝ }
+    ensures { λ r. ⌜ r ≡ checksum (earlierOf (take 6 (now (s .entry))) len (take len (drop 7 (now (s .entry))))) ⌝ }
+{
+    let marks = FIRST_MARK as usize + SECOND_MARK as usize;
+    let sum = marks + len + total_of(s, 0, LENGTH_AT) + total_of(s, HEADER, len);
+    (sum % 65536) as u16
 }
 
 // What a frame comes to, by its length, the last byte of its checksum and the held bytes.
@@ -302,21 +312,20 @@ fn judge_frame(len: usize, last: u8, held: &[u8]) -> Answer
     requires { ⌜ (len ≤ payloadMax) × (length (now held) ≡ bodyMax) ⌝ }
     ensures { λ r. ⌜ JudgedAs (judgedFrame len last (now (held .entry))) r ⌝ }
 {
-    let right = checksum_of(len, held);
     let came = word(held[HEADER + len], last);
-    if came == right {
-        let header = Header {
-            source_first: held[0],
-            source_second: held[1],
-            destination_first: held[2],
-            destination_second: held[3],
-            control: held[4],
-            function: held[5],
-            len: len,
-        };
-        return Answer::Message(header);
+    if came != checksum_of(len, held) {
+        return Answer::Damaged(Damage::WrongSum);
     }
-    Answer::Damaged(Damage::WrongSum)
+    let header = Header {
+        source_first: held[0],
+        source_second: held[1],
+        destination_first: held[2],
+        destination_second: held[3],
+        control: held[4],
+        function: held[5],
+        len,
+    };
+    Answer::Message(header)
 }
 
 // What the end of a run comes to.
@@ -376,35 +385,34 @@ impl Reader {
         let stage = self.stage;
         let count = self.count;
         let len = self.len;
-        if in_range(stage, count, len) {
-            if lent.len() < Reader::LENT {
-                let answer = Answer::Refused(Refusal::NoRoom);
-                return Step {
-                    reader: self,
-                    answer: answer,
-                    used: 0,
-                };
-            }
-            let ran = run_in(stage, count, len, &mut self.held, piece);
-            self.stage = ran.stage;
-            self.count = ran.count;
-            self.len = ran.len;
-            let used = ran.used;
-            let end = ran.end;
-            let answer = judge(end, &self.held);
-            deliver(answer, &self.held, lent);
-            Step {
-                reader: self,
-                answer: answer,
-                used: used,
-            }
-        } else {
+        if !in_range(stage, count, len) {
             let answer = Answer::Refused(Refusal::Spoilt);
-            Step {
+            return Step {
                 reader: self,
-                answer: answer,
+                answer,
                 used: 0,
-            }
+            };
+        }
+        if lent.len() < Reader::LENT {
+            let answer = Answer::Refused(Refusal::NoRoom);
+            return Step {
+                reader: self,
+                answer,
+                used: 0,
+            };
+        }
+        let ran = run_in(stage, count, len, &mut self.held, piece);
+        self.stage = ran.stage;
+        self.count = ran.count;
+        self.len = ran.len;
+        let used = ran.used;
+        let end = ran.end;
+        let answer = judge(end, &self.held);
+        deliver(answer, &self.held, lent);
+        Step {
+            reader: self,
+            answer,
+            used,
         }
     }
 }

@@ -64,6 +64,6 @@ Small answer = Delivery.Small (λ (h : Header). h .len) payloadMax (told answer)
 abbrev pub given : Answer → List ℕ → List ℕ → List ℕ
 given answer = Delivery.given (λ (h : Header). h .len) 3 (told answer)
 
--- `put_head`: all that stands before the data
+-- `put_lead`: all that stands before the data
 abbrev pub lead : ℕ → ℕ → ℕ → ℕ → List ℕ
 lead len device number command = mark ∷ mark ∷ mark ∷ len ∷ device ∷ number ∷ command ∷ []

@@ -1,4 +1,11 @@
 // The streaming reader: bytes go in by pieces, messages and damages come out, whatever the pieces.
+//
+// A frame (document 002, table of the fields of a data structure; Start to Checksum):
+//
+//     80 80 80 | length | device | number | command | data           | checksum
+//     start    | 1      | 1      | 1      | 1       | length, 0..127 | 1
+//
+// What a reader holds is the body: device, number, command and data. The checksum covers all but the start and itself.
 use answers::Damage;
 use answers::Refusal;
 use numbers::least;
@@ -62,8 +69,29 @@ const AT_START: u8 = 0;
 
 const IN_BODY: u8 = 1;
 
-// How many 80s make a start.
+// The byte of which three make a start, and how many do.
+pub(crate) const MARK: u8 = 0x80;
+
 const STARTS: usize = 3;
+
+// Whether stage, count and length are in the stage's range.
+fn in_range(stage: u8, count: usize, len: usize) -> bool
+    ensures { λ r. ⌜ r ≡ inRange stage count len ⌝ }
+{
+    if stage == AT_START {
+        if STARTS < count {
+            return false;
+        }
+        return len == 0;
+    }
+    if stage != IN_BODY {
+        return false;
+    }
+    if PAYLOAD < len {
+        return false;
+    }
+    count <= HEADER + len
+}
 
 // What one byte asks of the reader.
 enum Move {
@@ -79,22 +107,22 @@ enum Move {
     Bad,
 }
 
-// The one place that decides.
+// Says what a byte asks in a stage. No other function decides what a byte means.
 fn advance(stage: u8, count: usize, len: usize, b: u8) -> Move
     requires { ⌜ len ≤ payloadMax ⌝ }
     ensures { λ r. ⌜ r ≡ advanceOf stage count len b ⌝ }
 {
     if stage == AT_START {
         if count < STARTS {
-            if b == 0x80 {
+            if b == MARK {
                 return Move::Count(count + 1);
             }
             return Move::Count(0);
         }
-        if b == 0x80 {
+        if b == MARK {
             return Move::Count(STARTS);
         }
-        if b < 0x80 {
+        if b < MARK {
             return Move::Open(b as usize);
         }
         return Move::Bad;
@@ -103,29 +131,6 @@ fn advance(stage: u8, count: usize, len: usize, b: u8) -> Move
         return Move::Keep;
     }
     Move::Close
-}
-
-// The first `n` bytes of `s` added up, modulo 256 at each step, so that 16 are added at once.
-fn total_of(s: &[u8], n: usize) -> u8
-    requires { ⌜ n ≤ length (now s) ⌝ }
-    ensures { λ r. ⌜ r ≡ total (take n (now (s .entry))) % 256 ⌝ }
-{
-    let mut sum: u8 = 0;
-    let mut i: usize = 0;
-    while i < n {
-        sum = ((sum as u16 + s[i] as u16) % 256) as u8;
-        i += 1;
-    }
-    sum
-}
-
-// The checksum over a length and the body of that length at the front of `s`.
-pub(crate) fn checksum_of(len: usize, s: &[u8]) -> u8
-    requires { ⌜ (3 + len ≤ length (now s)) × (len ≤ payloadMax) ⌝ }
-    ensures { λ r. ⌜ r ≡ checksum (len ∷ take (3 + len) (now (s .entry))) ⌝ }
-{
-    let sum = len + total_of(s, HEADER + len) as usize;
-    (sum % 256) as u8
 }
 
 // How a run over a piece ended.
@@ -145,7 +150,7 @@ struct Ran {
     end: End,
 }
 
-// Takes in bytes of the body from `from` on, which need no look, as many as it still lacks and the piece has; gives the place after the last.
+// Takes in bytes of the body from `from` on, whatever they are: as many as it still lacks and the piece has. Gives the place after the last.
 fn fill(count: usize, len: usize, held: &mut [u8; BODY], piece: &[u8], from: usize) -> usize
     requires { ⌜ (count ≤ 3 + len) × (len ≤ payloadMax) × (from ≤ length (now piece)) × (length (now held) ≡ bodyMax) ⌝ }
     ensures { λ r. ⌜ Filled count len (now (held .entry)) (now (piece .entry)) from r (now (held .exit)) ⌝ }
@@ -162,6 +167,7 @@ fn fill(count: usize, len: usize, held: &mut [u8; BODY], piece: &[u8], from: usi
 }
 
 // The piece, byte by byte, up to the end of a frame, a bad length or the end of the piece.
+// It is long because each move has its arm here: a call from an arm would have to lend the whole state.
 fn run_in(stage: u8, count: usize, len: usize, held: &mut [u8; BODY], piece: &[u8]) -> Ran
     requires { ⌜ (inRange stage count len ≡ true) × (length (now held) ≡ bodyMax) ⌝ }
     ensures { λ r. ⌜ Runs stage count len (now (held .entry)) (now (piece .entry)) r (now (held .exit)) ⌝ }
@@ -191,13 +197,13 @@ fn run_in(stage: u8, count: usize, len: usize, held: &mut [u8; BODY], piece: &[u
                 i = j;
             }
             Move::Close => {
-                let end = End::Closed { len: len, sum: b };
+                let end = End::Closed { len, sum: b };
                 return Ran {
                     stage: AT_START,
                     count: 0,
                     len: 0,
                     used: i,
-                    end: end,
+                    end,
                 };
             }
             Move::Bad => {
@@ -207,38 +213,42 @@ fn run_in(stage: u8, count: usize, len: usize, held: &mut [u8; BODY], piece: &[u
                     count: 0,
                     len: 0,
                     used: i,
-                    end: end,
+                    end,
                 };
             }
         }
     }
     let end = End::UsedUp;
     Ran {
-        stage: stage,
-        count: count,
-        len: len,
+        stage,
+        count,
+        len,
         used: i,
-        end: end,
+        end,
     }
 }
 
-// Whether stage, count and length are in the stage's range.
-fn in_range(stage: u8, count: usize, len: usize) -> bool
-    ensures { λ r. ⌜ r ≡ inRange stage count len ⌝ }
+// The first `n` bytes of `s` added up, modulo 256 at each step, so that 16 are added at once.
+fn total_of(s: &[u8], n: usize) -> u8
+    requires { ⌜ n ≤ length (now s) ⌝ }
+    ensures { λ r. ⌜ r ≡ total (take n (now (s .entry))) % 256 ⌝ }
 {
-    if stage == AT_START {
-        if count <= STARTS { len == 0 } else { false }
-    } else {
-        if stage == IN_BODY {
-            if len <= PAYLOAD {
-                count <= HEADER + len
-            } else {
-                false
-            }
-        } else {
-            false
-        }
+    let mut sum: u8 = 0;
+    let mut i: usize = 0;
+    while i < n {
+        sum = ((sum as u16 + s[i] as u16) % 256) as u8;
+        i += 1;
     }
+    sum
+}
+
+// The checksum over a length and the body of that length at the front of `s`.
+pub(crate) fn checksum_of(len: usize, s: &[u8]) -> u8
+    requires { ⌜ (3 + len ≤ length (now s)) × (len ≤ payloadMax) ⌝ }
+    ensures { λ r. ⌜ r ≡ checksum (len ∷ take (3 + len) (now (s .entry))) ⌝ }
+{
+    let sum = len + total_of(s, HEADER + len) as usize;
+    (sum % 256) as u8
 }
 
 // What a frame comes to, by its length, the checksum that came and the held bytes.
@@ -246,17 +256,16 @@ fn judge_frame(len: usize, sum: u8, held: &[u8]) -> Answer
     requires { ⌜ (len ≤ payloadMax) × (length (now held) ≡ bodyMax) ⌝ }
     ensures { λ r. ⌜ JudgedAs (judgedFrame len sum (now (held .entry))) r ⌝ }
 {
-    let right = checksum_of(len, held);
-    if sum == right {
-        let header = Header {
-            device: held[0],
-            number: held[1],
-            command: held[2],
-            len: len,
-        };
-        return Answer::Message(header);
+    if sum != checksum_of(len, held) {
+        return Answer::Damaged(Damage::WrongSum);
     }
-    Answer::Damaged(Damage::WrongSum)
+    let header = Header {
+        device: held[0],
+        number: held[1],
+        command: held[2],
+        len,
+    };
+    Answer::Message(header)
 }
 
 // What the end of a run comes to.
@@ -317,35 +326,34 @@ impl Reader {
         let stage = self.stage;
         let count = self.count;
         let len = self.len;
-        if in_range(stage, count, len) {
-            if lent.len() < Reader::LENT {
-                let answer = Answer::Refused(Refusal::NoRoom);
-                return Step {
-                    reader: self,
-                    answer: answer,
-                    used: 0,
-                };
-            }
-            let ran = run_in(stage, count, len, &mut self.held, piece);
-            self.stage = ran.stage;
-            self.count = ran.count;
-            self.len = ran.len;
-            let used = ran.used;
-            let end = ran.end;
-            let answer = judge(end, &self.held);
-            deliver(answer, &self.held, lent);
-            Step {
-                reader: self,
-                answer: answer,
-                used: used,
-            }
-        } else {
+        if !in_range(stage, count, len) {
             let answer = Answer::Refused(Refusal::Spoilt);
-            Step {
+            return Step {
                 reader: self,
-                answer: answer,
+                answer,
                 used: 0,
-            }
+            };
+        }
+        if lent.len() < Reader::LENT {
+            let answer = Answer::Refused(Refusal::NoRoom);
+            return Step {
+                reader: self,
+                answer,
+                used: 0,
+            };
+        }
+        let ran = run_in(stage, count, len, &mut self.held, piece);
+        self.stage = ran.stage;
+        self.count = ran.count;
+        self.len = ran.len;
+        let used = ran.used;
+        let end = ran.end;
+        let answer = judge(end, &self.held);
+        deliver(answer, &self.held, lent);
+        Step {
+            reader: self,
+            answer,
+            used,
         }
     }
 }

@@ -1,4 +1,5 @@
 // The writer: one message as the bytes of a frame.
+use crate::reader::MARK;
 use crate::reader::Reader;
 use crate::reader::checksum_of;
 use answers::Refusal;
@@ -9,9 +10,6 @@ ghost use lib.ListN.{length};
 ghost use lib.Seq.{sets};
 ghost use Rattle.fronius.specs.Writer.{IsWritten};
 ghost use Rattle.fronius.specs.Inside.{lead};
-
-// The byte of which three make a start.
-const MARK: u8 = 0x80;
 
 // Where the body begins, and where the data do: after the start and the length; after device, number and command too.
 const BODY_AT: usize = 4;

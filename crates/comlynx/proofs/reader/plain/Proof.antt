@@ -1,4 +1,4 @@
-use Rattle.comlynx.specs.Inside.{AllPlain}
+use Rattle.comlynx.specs.Inside.{runLength, AllPlain}
 use Rattle.comlynx.proofs.FillScans.{plain-more}
 use native.Mathlib.Omega.{arith}
 use Prim.Native.Nat.{_-_, _≤_}
@@ -9,10 +9,10 @@ use Rattle.comlynx.proofs.reader.plain.Statement.{statement}
 use Rattle.comlynx.proofs.reader.plain.Tie as tie
 
 abbrev Inv-loop : tie.InvT-loop
-Inv-loop s at good₀ k₀ good k = (k ≤ 16) × (good ≡ true → AllPlain s at k)
+Inv-loop s at good₀ k₀ good k = (k ≤ runLength) × (good ≡ true → AllPlain s at k)
 
 abbrev μ-loop : tie.MeasureT-loop
-μ-loop s at good₀ k₀ good k = 16 - k
+μ-loop s at good₀ k₀ good k = runLength - k
 
 loop-holds : tie.Need-loop-holds Inv-loop μ-loop
 loop-holds c = (omega arith, λ e j h. absurd (omega arith))

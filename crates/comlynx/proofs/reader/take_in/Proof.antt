@@ -1,6 +1,6 @@
 use mathlib.Core.Path.{subst}
 use native.Mathlib.Nat.{add-assoc}
-use Rattle.comlynx.specs.Inside.{Filled}
+use Rattle.comlynx.specs.Inside.{runLength, Filled}
 use Rattle.comlynx.proofs.FillScans.{filled-none, filled-one, filled-more}
 use native.Mathlib.Omega.{arith}
 use Prim.Native.Nat.{ℕ, _+_, _-_, _≤_}
@@ -11,10 +11,10 @@ use Rattle.comlynx.proofs.reader.take_in.Statement.{statement}
 use Rattle.comlynx.proofs.reader.take_in.Tie as tie
 
 abbrev Inv-loop : tie.InvT-loop
-Inv-loop count held₀ piece at k₀ held k = (k ≤ 16) × Filled count held₀ piece at (at + k) held
+Inv-loop count held₀ piece at k₀ held k = (k ≤ runLength) × Filled count held₀ piece at (at + k) held
 
 abbrev μ-loop : tie.MeasureT-loop
-μ-loop count held₀ piece at k₀ held k = 16 - k
+μ-loop count held₀ piece at k₀ held k = runLength - k
 
 loop-holds : tie.Need-loop-holds Inv-loop μ-loop
 loop-holds c =
@@ -53,7 +53,7 @@ returns : tie.Need-returns Inv-loop μ-loop
 returns c =
     let l = c .before .loop in
     let a = c .before .before .args in
-    let e : l .k ≡ 16 = omega arith in
+    let e : l .k ≡ runLength = omega arith in
     subst (λ (k : ℕ). Filled (a .count) (a .held .now) (a .piece .now) (a .at) (a .at + k) (l .held)) e (l .inv .1)
 
 pub take-in-spec : {M : Type 1} → statement M

@@ -6,17 +6,14 @@ use Rattle.eversolar.proofs.reader.judge_frame.Statement.{statement}
 use Rattle.eversolar.proofs.reader.judge_frame.Tie as tie
 
 -- the two sums that are compared
-abbrev start : tie.After-word → tie.Start
+abbrev start : tie.After-checksum-of → tie.Start
 start c = c .before .before .before .before
 
-right : (c : tie.After-word) → c .before .before .checksum-of .result ≡ rightSum (start c .args .len) (start c .args .held .now)
-right c = c .before .before .checksum-of .ensures
+right : (c : tie.After-checksum-of) → c .checksum-of .result ≡ rightSum (start c .args .len) (start c .args .held .now)
+right c = c .checksum-of .ensures
 
-came : (c : tie.After-word) → c .word .result ≡ cameSum (start c .args .len) (start c .args .last) (start c .args .held .now)
-came c = c .word .ensures
-
-checksum-of-requires : tie.Need-checksum-of-requires
-checksum-of-requires c κs = search needs
+came : (c : tie.After-checksum-of) → c .before .word .result ≡ cameSum (start c .args .len) (start c .args .last) (start c .args .held .now)
+came c = c .before .word .ensures
 
 add-word : tie.Need-add-word
 add-word c = search needs
@@ -27,8 +24,16 @@ shared-slice-read-word c = search needs
 word-requires : tie.Need-word-requires
 word-requires c κs = search needs
 
-shared-slice-read-t12 : tie.Need-shared-slice-read-t12
-shared-slice-read-t12 c = search needs
+checksum-of-requires : tie.Need-checksum-of-requires
+checksum-of-requires c κs = search needs
+
+returns : tie.Need-returns
+returns c =
+    let a = start (c .before) .args in
+    judged-wrong (a .len) (a .held .now) (omega arith) (a .last) (λ e. c .if1 .taken (came (c .before) ∙ e ∙ sym (right (c .before))))
+
+shared-slice-read-t8 : tie.Need-shared-slice-read-t8
+shared-slice-read-t8 c = search needs
 
 shared-slice-read-t14 : tie.Need-shared-slice-read-t14
 shared-slice-read-t14 c = search needs
@@ -45,30 +50,25 @@ shared-slice-read-t20 c = search needs
 shared-slice-read-t22 : tie.Need-shared-slice-read-t22
 shared-slice-read-t22 c = search needs
 
-returns : tie.Need-returns
-returns c =
-    let then = c .before .before .before .before .before .before in
-    let a = start (then .before) .args in
-    judged-right (a .len) (a .held .now) (omega arith) (a .last) (sym (came (then .before)) ∙ then .if1 .taken ∙ right (then .before))
-
 returns-2 : tie.Need-returns-2
 returns-2 c =
-    let a = start (c .before) .args in
-    judged-wrong (a .len) (a .held .now) (omega arith) (a .last) (λ e. c .if1 .left (came (c .before) ∙ e ∙ sym (right (c .before))))
+    let else = c .before .before .before .before .before .before in
+    let a = start (else .before) .args in
+    judged-right (a .len) (a .held .now) (omega arith) (a .last) (sym (came (else .before)) ∙ else .if1 .left ∙ right (else .before))
 
 pub judge-frame-spec : {M : Type 1} → statement M
 judge-frame-spec =
     tie.close
     (tie.spec
-    checksum-of-requires
     add-word
     shared-slice-read-word
     word-requires
-    shared-slice-read-t12
+    checksum-of-requires
+    returns
+    shared-slice-read-t8
     shared-slice-read-t14
     shared-slice-read-t16
     shared-slice-read-t18
     shared-slice-read-t20
     shared-slice-read-t22
-    returns
     returns-2)

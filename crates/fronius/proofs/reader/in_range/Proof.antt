@@ -6,28 +6,28 @@ use borrow.Author.Needs.{needs}
 use Rattle.fronius.proofs.reader.in_range.Statement.{statement}
 use Rattle.fronius.proofs.reader.in_range.Tie as tie
 
-add-result : tie.Need-add-result
-add-result c = search needs
-
 returns : tie.Need-returns
 unfolding inRange
-returns c = simp (eq-eqb _ _ (c .before .if1 .taken), le-leb _ _ (c .if2 .taken))
+returns c = simp (eq-eqb _ _ (c .before .if1 .taken), lt-leb _ _ (c .if2 .taken))
 
 returns-2 : tie.Need-returns-2
 unfolding inRange
-returns-2 c = simp (eq-eqb _ _ (c .before .if1 .taken), lt-leb _ _ (c .if2 .left))
+returns-2 c = simp (eq-eqb _ _ (c .before .if1 .taken), le-leb _ _ (c .if2 .left))
 
 returns-3 : tie.Need-returns-3
 unfolding inRange
-returns-3 c = simp (ne-eqb _ _ (c .before .before .if1 .left), eq-eqb _ _ (c .before .if3 .taken), le-leb _ _ (c .if4 .taken))
+returns-3 c = simp (ne-eqb _ _ (c .before .if1 .left), ne-eqb _ _ (c .if3 .taken))
 
 returns-4 : tie.Need-returns-4
 unfolding inRange
-returns-4 c = simp (ne-eqb _ _ (c .before .before .if1 .left), eq-eqb _ _ (c .before .if3 .taken), lt-leb _ _ (c .if4 .left))
+returns-4 c = simp (ne-eqb _ _ (c .before .before .if1 .left), eq-eqb _ _ (c .before .if3 .left), lt-leb _ _ (c .if4 .taken))
+
+add-result : tie.Need-add-result
+add-result c = search needs
 
 returns-5 : tie.Need-returns-5
 unfolding inRange
-returns-5 c = simp (ne-eqb _ _ (c .before .if1 .left), ne-eqb _ _ (c .if3 .left))
+returns-5 c = simp (ne-eqb _ _ (c .before .before .if1 .left), eq-eqb _ _ (c .before .if3 .left), le-leb _ _ (c .if4 .left))
 
 pub in-range-spec : {M : Type 1} → statement M
-in-range-spec = tie.close (tie.spec add-result returns returns-2 returns-3 returns-4 returns-5)
+in-range-spec = tie.close (tie.spec returns returns-2 returns-3 returns-4 add-result returns-5)

@@ -10,8 +10,13 @@ use Rattle.fronius.proofs.reader.judge_frame.Tie as tie
 checksum-of-requires : tie.Need-checksum-of-requires
 checksum-of-requires c κs = search needs
 
-shared-slice-read-t8 : tie.Need-shared-slice-read-t8
-shared-slice-read-t8 c = search needs
+returns : tie.Need-returns
+returns c =
+    let start = c .before .before .before in
+    judged-wrong (start .args .len) (start .args .held .now) (omega arith) (start .args .sum) (λ e. c .if1 .taken (e ∙ sym (c .before .checksum-of .ensures)))
+
+shared-slice-read-t5 : tie.Need-shared-slice-read-t5
+shared-slice-read-t5 c = search needs
 
 shared-slice-read-t10 : tie.Need-shared-slice-read-t10
 shared-slice-read-t10 c = search needs
@@ -19,23 +24,18 @@ shared-slice-read-t10 c = search needs
 shared-slice-read-t12 : tie.Need-shared-slice-read-t12
 shared-slice-read-t12 c = search needs
 
-returns : tie.Need-returns
-returns c =
-    let start = c .before .before .before .before .before .before in
-    judged-right (start .args .len) (start .args .held .now) (omega arith) (start .args .sum) (c .before .before .before .if1 .taken ∙ c .before .before .before .before .checksum-of .ensures)
-
 returns-2 : tie.Need-returns-2
 returns-2 c =
-    let start = c .before .before .before in
-    judged-wrong (start .args .len) (start .args .held .now) (omega arith) (start .args .sum) (λ e. c .if1 .left (e ∙ sym (c .before .checksum-of .ensures)))
+    let start = c .before .before .before .before .before .before in
+    judged-right (start .args .len) (start .args .held .now) (omega arith) (start .args .sum) (c .before .before .before .if1 .left ∙ c .before .before .before .before .checksum-of .ensures)
 
 pub judge-frame-spec : {M : Type 1} → statement M
 judge-frame-spec =
     tie.close
     (tie.spec
     checksum-of-requires
-    shared-slice-read-t8
+    returns
+    shared-slice-read-t5
     shared-slice-read-t10
     shared-slice-read-t12
-    returns
     returns-2)

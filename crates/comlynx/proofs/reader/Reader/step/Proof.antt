@@ -25,6 +25,7 @@ use Prim.Native.Nat.{ℕ, _-_}
 use mathlib.Core.Path.{_≡_, refl, sym, _∙_, ap}
 use mathlib.Core.Bool.{Bool, true}
 use lib.ListN.{length, take}
+use borrow.Author.Tests.{not-true, not-false}
 use borrow.Author.Needs.{needs}
 use Rattle.comlynx.proofs.reader.Reader.step.Statement.{statement}
 use Rattle.comlynx.proofs.reader.Reader.step.Tie as tie
@@ -36,8 +37,8 @@ start c = c .before .before .before .before .before .before .before
 full-at : (c : tie.Start) → length (c .args .t1 .held) ≡ bodyMax
 full-at c = sym (length-map (c .args .t1 .held) (λ (v : ℕ). v)) ∙ c .good .0 .1 .1 .0 .1 .0 .1
 
-sound-at : (c : tie.Then1) → inRange (c .before .before .before .before .args .t1) ≡ true
-sound-at c = sym (c .before .in-range .ensures) ∙ c .if1 .taken
+sound-at : (c : tie.Else1) → inRange (c .before .before .before .before .args .t1) ≡ true
+sound-at c = sym (c .before .in-range .ensures) ∙ not-false _ (c .if1 .left)
 
 -- what the run left in the held bytes
 abbrev held : tie.After-run-in → List ℕ
@@ -65,47 +66,52 @@ ends c later x o e f g =
     (ap {B = Seen Reader Header} (λ t. record { state = after c; told = t; used = c .run-in .result .used }) f) g (c .run-in .ensures .ranged)
 
 -- where a stretch closed: the run, the count, the event by what is due, and what it delivers
-abbrev ran : tie.After-judge → tie.After-run-in
+abbrev ran : tie.After-judge-frame → tie.After-run-in
 ran c = c .before .before .before .before .before .before .before .before .before .before .before .before .before
 
-abbrev ended : tie.After-judge → tie.After-end
+abbrev ended : tie.After-judge-frame → tie.After-end
 ended c = c .before .before .before .before .before .before .before .before .before .before .before
 
-abbrev N : tie.After-judge → ℕ
+abbrev N : tie.After-judge-frame → ℕ
 N c = ended c .end .given .0 .0
 
-abbrev right : tie.After-judge → Bool
+abbrev right : tie.After-judge-frame → Bool
 right c = let d = c .before .before .before .before .sent-of .result in due (N c) (d .low) (d .high) (held (ran c))
 
-summed : (c : tie.After-judge) → c .before .before .before .before .before .of-first .result ≡ checksumOf (take (N c - 2) (held (ran c)))
+summed : (c : tie.After-judge-frame) → c .before .before .before .before .before .of-first .result ≡ checksumOf (take (N c - 2) (held (ran c)))
 summed c =
     let q = c .before .before .before .before .before in
     q .of-first .ensures ∙ ap (λ (k : ℕ). checksumOf (take k (held (ran c)))) (q .before .covered .ensures)
 
-event : (c : tie.After-judge) → closed (N c) (held (ran c)) ≡ judged (N c) (right c) (take (N c) (held (ran c)))
+event : (c : tie.After-judge-frame) → closed (N c) (held (ran c)) ≡ judged (N c) (right c) (take (N c) (held (ran c)))
 event c =
     let q = c .before .before .before .before in
     closes (N c) (q .before .of-first .result) (held (ran c)) (q .sent-of .result) (full (ran c)) (summed c) (q .sent-of .ensures)
 
-settled : (c : tie.After-judge)
+settled : (c : tie.After-judge-frame)
     → scan next (start (ran c) .args .t1) (start (ran c) .args .piece .now)
     ≡ record { state = after (ran c); event = some (judged (N c) (right c) (take (N c) (held (ran c)))); used = ran c .run-in .result .used }
 settled c =
     scanned (ran c) (Closed (N c)) (ended c .end .given .1)
     ∙ ap {B = Called Reader (Event Message)} (λ x. record { state = after (ran c); event = some x; used = ran c .run-in .result .used }) (event c)
 
-tells : (c : tie.After-judge) → told (c .judge .result) ≡ retold header (gives (judged (N c) (right c) (take (N c) (held (ran c)))))
-tells c = c .judge .ensures
+tells : (c : tie.After-judge-frame) → told (c .judge-frame .result) ≡ retold header (gives (judged (N c) (right c) (take (N c) (held (ran c)))))
+tells c = c .judge-frame .ensures
 
-result : (c : tie.After-judge) → Small (c .judge .result)
-    × (given (c .judge .result) (held (ran c)) (start (ran c) .args .lent .now) ≡ delivered (λ (m : Message). m .payload) (gives (judged (N c) (right c) (take (N c) (held (ran c))))) (start (ran c) .args .lent .now))
-result c = delivers (N c) (right c) (held (ran c)) (start (ran c) .args .lent .now) (c .judge .result) (full (ran c)) (c .judge .ensures)
+result : (c : tie.After-judge-frame) → Small (c .judge-frame .result)
+    × (given (c .judge-frame .result) (held (ran c)) (start (ran c) .args .lent .now) ≡ delivered (λ (m : Message). m .payload) (gives (judged (N c) (right c) (take (N c) (held (ran c))))) (start (ran c) .args .lent .now))
+result c = delivers (N c) (right c) (held (ran c)) (start (ran c) .args .lent .now) (c .judge-frame .result) (full (ran c)) (c .judge-frame .ensures)
 
 in-range-requires : tie.Need-in-range-requires
 in-range-requires c κs = search needs
 
 returns : tie.Need-returns
 returns c =
+    let a = c .before .before .before .before .args in
+    steps-spoilt next inRange header (λ m. m .payload) shown (a .t1) (a .piece .now) (a .lent .now) (record { reader = a .t1; answer = Refused Spoilt; used = 0 }) (sym (c .before .in-range .ensures) ∙ not-true _ (c .if1 .taken)) refl
+
+returns-2 : tie.Need-returns-2
+returns-2 c =
     let a = c .before .before .before .before .before .args in
     steps-no-room next inRange header (λ m. m .payload) shown (a .t1) (a .piece .now) (a .lent .now) (record { reader = a .t1; answer = Refused NoRoom; used = 0 }) (sound-at (c .before)) (c .if2 .taken) refl
 
@@ -127,8 +133,8 @@ of-first-requires c κs = search needs
 sent-of-requires : tie.Need-sent-of-requires
 sent-of-requires c κs = search needs
 
-judge-requires : tie.Need-judge-requires
-judge-requires c κs = search needs
+judge-frame-requires : tie.Need-judge-frame-requires
+judge-frame-requires c κs = search needs
 
 deliver-requires : tie.Need-deliver-requires
 deliver-requires c κs =
@@ -138,26 +144,21 @@ deliver-requires c κs =
 enum-told-2 : tie.Need-enum-told-2
 enum-told-2 c = search needs
 
-returns-2 : tie.Need-returns-2
-returns-2 c = let r = c .before .before in ends r (start r .args .lent .now) Done none (scanned r UsedUp (c .enum-told .given .1)) refl refl
+returns-3 : tie.Need-returns-3
+returns-3 c = let r = c .before .before in ends r (start r .args .lent .now) Done none (scanned r UsedUp (c .enum-told .given .1)) refl refl
 
 same-length : tie.Need-same-length
 same-length c = search needs
 
-returns-3 : tie.Need-returns-3
-returns-3 c =
-    let k = c .before .before .before .before .before .before .before in
-    ends (ran k) _ (k .judge .result) _ (settled k) (tells k) (c .before .before .deliver .ensures ∙ result k .1)
-
 returns-4 : tie.Need-returns-4
 returns-4 c =
-    let r = c .before .before in
-    ends r (start r .args .lent .now) (Damaged BrokenPair) _ (scanned r Broken (c .enum-told2 .given .1)) refl refl
+    let k = c .before .before .before .before .before .before .before in
+    ends (ran k) _ (k .judge-frame .result) _ (settled k) (tells k) (c .before .before .deliver .ensures ∙ result k .1)
 
 returns-5 : tie.Need-returns-5
 returns-5 c =
-    let a = c .before .before .before .before .args in
-    steps-spoilt next inRange header (λ m. m .payload) shown (a .t1) (a .piece .now) (a .lent .now) (record { reader = a .t1; answer = Refused Spoilt; used = 0 }) (sym (c .before .in-range .ensures) ∙ c .if1 .left) refl
+    let r = c .before .before in
+    ends r (start r .args .lent .now) (Damaged BrokenPair) _ (scanned r Broken (c .enum-told2 .given .1)) refl refl
 
 pub step-spec : {M : Type 1} → statement M
 step-spec =
@@ -165,17 +166,17 @@ step-spec =
     (tie.spec
     in-range-requires
     returns
+    returns-2
     run-in-requires
     enum-told
     enum-known-end
     covered-requires
     of-first-requires
     sent-of-requires
-    judge-requires
+    judge-frame-requires
     deliver-requires
     enum-told-2
-    returns-2
-    same-length
     returns-3
+    same-length
     returns-4
     returns-5)

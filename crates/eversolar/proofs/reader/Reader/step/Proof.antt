@@ -16,6 +16,7 @@ use native.Mathlib.Omega.{arith}
 use Prim.Native.Nat.{ℕ, _≤_}
 use mathlib.Core.Path.{_≡_, refl, sym, _∙_, ap}
 use mathlib.Core.Bool.{true}
+use borrow.Author.Tests.{not-true, not-false}
 use borrow.Author.Needs.{needs}
 use Rattle.eversolar.proofs.reader.Reader.step.Statement.{statement}
 use Rattle.eversolar.proofs.reader.Reader.step.Tie as tie
@@ -27,8 +28,8 @@ start c = c .before .before .before .before .before .before .before
 full-at : (c : tie.Start) → length (c .args .t1 .held) ≡ bodyMax
 full-at c = sym (length-map (c .args .t1 .held) (λ (v : ℕ). v)) ∙ c .good .0 .1 .1 .0 .1 .0 .1
 
-sound-at : (c : tie.Then1) → inRange (c .before .before .before .before .args .t1) ≡ true
-sound-at c = sym (c .before .in-range .ensures) ∙ c .if1 .taken
+sound-at : (c : tie.Else1) → inRange (c .before .before .before .before .args .t1) ≡ true
+sound-at c = sym (c .before .in-range .ensures) ∙ not-false _ (c .if1 .left)
 
 room : (c : tie.After-run-in) → lentLeast ≤ length (start c .args .lent .now)
 room c = omega (arith, c .before .before .if2 .left)
@@ -56,6 +57,11 @@ in-range-requires c κs = search needs
 
 returns : tie.Need-returns
 returns c =
+    let a = c .before .before .before .before .args in
+    steps-spoilt next inRange header (λ m. m .payload) shown (a .t1) (a .piece .now) (a .lent .now) (record { reader = a .t1; answer = Refused Spoilt; used = 0 }) (sym (c .before .in-range .ensures) ∙ not-true _ (c .if1 .taken)) refl
+
+returns-2 : tie.Need-returns-2
+returns-2 c =
     let a = c .before .before .before .before .before .args in
     steps-no-room next inRange header (λ m. m .payload) shown (a .t1) (a .piece .now) (a .lent .now) (record { reader = a .t1; answer = Refused NoRoom; used = 0 }) (sound-at (c .before)) (omega arith) refl
 
@@ -73,8 +79,8 @@ deliver-requires c κs =
 same-length : tie.Need-same-length
 same-length c = search needs
 
-returns-2 : tie.Need-returns-2
-returns-2 c =
+returns-3 : tie.Need-returns-3
+returns-3 c =
     let k = c .before .before .before .before .before .before .before in
     let r = ran k in
     let a = start r .args in
@@ -83,20 +89,15 @@ returns-2 c =
     (c .before .before .deliver .ensures ∙ judged k .1)
     (r .run-in .ensures .ranged)
 
-returns-3 : tie.Need-returns-3
-returns-3 c =
-    let a = c .before .before .before .before .args in
-    steps-spoilt next inRange header (λ m. m .payload) shown (a .t1) (a .piece .now) (a .lent .now) (record { reader = a .t1; answer = Refused Spoilt; used = 0 }) (sym (c .before .in-range .ensures) ∙ c .if1 .left) refl
-
 pub step-spec : {M : Type 1} → statement M
 step-spec =
     tie.close
     (tie.spec
     in-range-requires
     returns
+    returns-2
     run-in-requires
     judge-requires
     deliver-requires
     same-length
-    returns-2
     returns-3)

@@ -11,8 +11,8 @@ use mathlib.Core.Path.{_≡_, sym, _∙_, ap}
 use mathlib.Core.Bool.{true}
 use lib.ListN.{getD}
 use borrow.Author.Needs.{needs}
-use Rattle.comlynx.proofs.reader.judge.Statement.{statement}
-use Rattle.comlynx.proofs.reader.judge.Tie as tie
+use Rattle.comlynx.proofs.reader.judge_frame.Statement.{statement}
+use Rattle.comlynx.proofs.reader.judge_frame.Tie as tie
 
 -- what each test told, where it held
 abbrev start : tie.Else1 → tie.Start
@@ -117,8 +117,8 @@ returns-5 c =
     let s = start (j .before .before) in
     ap (λ (h : Header). told (Read h)) (read c) ∙ judged-message (s .args .count) (s .args .low) (s .args .high) (s .args .held .now) (s .pre) (fits (j .before .before)) (starts j) (size k) (sym (q .before .ends .ensures) ∙ not-false _ (q .if4 .left))
 
-pub judge-spec : {M : Type 1} → statement M
-judge-spec =
+pub judge-frame-spec : {M : Type 1} → statement M
+judge-frame-spec =
     tie.close
     (tie.spec
     sized-requires
