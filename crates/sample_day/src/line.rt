@@ -1,20 +1,28 @@
 // What a port's line carried that day.
-use crate::parts::byte_at;
-use crate::parts::further;
-use crate::parts::part;
-use crate::parts::size_at;
-use crate::parts::word_at;
 use answers::Refusal;
 use answers::Written;
+use test_parts::COMLYNX;
+use test_parts::EVERSOLAR;
+use test_parts::FRONIUS;
+use test_parts::byte_at;
+use test_parts::further;
+use test_parts::length_of;
+use test_parts::part;
+use test_parts::size_at;
+use test_parts::word_at;
 
-// A record of the day: its port; whose writer makes it, a family by its port or none (0: bytes that nobody sent); the message's header, in as
-// many of six bytes as its family has; the place of a byte that the line changed and what it came out as; how many data bytes there are,
-// and those.
+// Where a record of the day has what it says. First is its port. The writer is a family by its port, or 0 where nobody sent the bytes. The
+// header has as many of its six bytes as the family needs. Then come the index of the byte that the line changed, and what it came out as. The
+// payload stands behind its size.
+const PORT: usize = 0;
+
 const WRITER: usize = 1;
 
 const HEADER: usize = 2;
 
-const PLACE: usize = 8;
+const HEADER_SIZE: usize = 6;
+
+const CHANGED: usize = 8;
 
 const CAME_OUT: usize = 9;
 
@@ -22,22 +30,15 @@ const SIZE: usize = 10;
 
 const PAYLOAD: usize = 11;
 
-const DATA_MAX: usize = 255;
+const PAYLOAD_MAX: usize = 255;
 
-// The place of a record's changed byte where none is.
+// The index of a record's changed byte where none is.
 const UNCHANGED: usize = 255;
 
 // More than there are records.
 const RECORDS: usize = 300;
 
-// How many bytes were written.
-pub(crate) fn length_of(w: Written) -> usize {
-    match w {
-        Written::Done(n) => n,
-        Written::Refused(_) => 0,
-    }
-}
-
+// Copies the bytes that nobody sent.
 fn noise(payload: &[u8], room: &mut [u8]) -> Written {
     if room.len() < payload.len() {
         return Written::Refused(Refusal::NoRoom);
@@ -48,14 +49,14 @@ fn noise(payload: &[u8], room: &mut [u8]) -> Written {
 // Writes the message of a record by the writer of a family, or the bytes that nobody sent.
 fn write(who: u8, header: &[u8], payload: &[u8], room: &mut [u8]) -> Written {
     match who {
-        1 => comlynx::write(
+        COMLYNX => comlynx::write(
             word_at(header, 0),
             word_at(header, 2),
             byte_at(header, 4),
             payload,
             room,
         ),
-        2 => eversolar::write(
+        EVERSOLAR => eversolar::write(
             byte_at(header, 0),
             byte_at(header, 1),
             byte_at(header, 2),
@@ -65,7 +66,7 @@ fn write(who: u8, header: &[u8], payload: &[u8], room: &mut [u8]) -> Written {
             payload,
             room,
         ),
-        3 => fronius::write(
+        FRONIUS => fronius::write(
             byte_at(header, 0),
             byte_at(header, 1),
             byte_at(header, 2),
@@ -76,30 +77,31 @@ fn write(who: u8, header: &[u8], payload: &[u8], room: &mut [u8]) -> Written {
     }
 }
 
+// Changes a byte, where there is one at the index.
 fn change(line: &mut [u8], at: usize, to: u8) {
     if at < line.len() {
         line[at] = to;
     }
 }
 
-// Changes the byte of a record that the line changed, the record's bytes being at a place of the line.
+// Changes the byte that the line changed. The record's bytes stand on the line from an index on.
 fn damage(line: &mut [u8], at: usize, record: &[u8]) {
-    let changed = size_at(record, PLACE);
+    let changed = size_at(record, CHANGED);
     if changed == UNCHANGED {
         return;
     }
     change(line, further(at, changed), byte_at(record, CAME_OUT));
 }
 
-// Puts a record's bytes on the line, at a place. Answers the place behind them.
+// Puts a record's bytes on the line, from an index on. Answers the index behind them.
 fn put(line: &mut [u8], at: usize, record: &[u8]) -> usize {
     if line.len() < at {
         return at;
     }
     let w = write(
         byte_at(record, WRITER),
-        part(record, HEADER, 6),
-        part(record, PAYLOAD, DATA_MAX),
+        part(record, HEADER, HEADER_SIZE),
+        part(record, PAYLOAD, PAYLOAD_MAX),
         &mut line[at..],
     );
     let n = length_of(w);
@@ -107,8 +109,9 @@ fn put(line: &mut [u8], at: usize, record: &[u8]) -> usize {
     further(at, n)
 }
 
+// Puts the records of one port alone.
 fn put_for(port: u8, line: &mut [u8], at: usize, record: &[u8]) -> usize {
-    if byte_at(record, 0) != port {
+    if byte_at(record, PORT) != port {
         return at;
     }
     put(line, at, record)

@@ -4,12 +4,14 @@
 use libc::STDIN_FILENO;
 use libc::STDOUT_FILENO;
 use line::fill;
-use line::length_of;
-use parts::further;
-use parts::part;
+use test_parts::COMLYNX;
+use test_parts::EVERSOLAR;
+use test_parts::FRONIUS;
+use test_parts::further;
+use test_parts::length_of;
+use test_parts::part;
 
 mod line;
-mod parts;
 
 // How many bytes of a line go into one packet, in turn. Most end inside a message, one between the two bytes of an escape pair, two before
 // a closing flag.
@@ -37,9 +39,9 @@ fn send_all(one: &[u8], two: &[u8], three: &[u8]) {
     let mut c: usize = 0;
     let mut round: usize = 0;
     while round < ROUNDS {
-        a = send_next(1, round, one, a);
-        b = send_next(2, round + 2, two, b);
-        c = send_next(3, round + 3, three, c);
+        a = send_next(COMLYNX, round, one, a);
+        b = send_next(EVERSOLAR, round + 2, two, b);
+        c = send_next(FRONIUS, round + 3, three, c);
         round += 1;
     }
 }
@@ -51,9 +53,9 @@ fn main() {
     let mut one = io::buffer();
     let mut two = io::buffer();
     let mut three = io::buffer();
-    let end_one = fill(&mut one, &day, 1);
-    let end_two = fill(&mut two, &day, 2);
-    let end_three = fill(&mut three, &day, 3);
+    let end_one = fill(&mut one, &day, COMLYNX);
+    let end_two = fill(&mut two, &day, EVERSOLAR);
+    let end_three = fill(&mut three, &day, FRONIUS);
     send_all(
         part(&one, 0, end_one),
         part(&two, 0, end_two),

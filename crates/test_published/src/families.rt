@@ -1,71 +1,57 @@
 // The reader and the writer of a family, by the port that has it.
-use crate::parts::byte_at;
-use crate::parts::word;
 use answers::Written;
+use numbers::word;
 use ports::Answer;
 use ports::Ports;
+use test_parts::COMLYNX;
+use test_parts::EVERSOLAR;
+use test_parts::byte_at;
+use test_parts::high;
+use test_parts::low;
+use test_parts::word_at;
 
-// What is read, as bytes: the answer, from, to and code (two each; what a family has not of them is 0), how many data bytes there are, and how many
-// bytes of the frame were used.
+// What is read is told in so many bytes: the answer, then from, to and code of a message in two bytes each, then how many data bytes it has and
+// how many bytes of the frame were used. What a family has not of them is 0. Every count is below 256.
 pub(crate) const READ: usize = 9;
 
-// The low byte. Counts are below 256 in all that fits into a record.
-fn low(n: usize) -> u8 {
-    (n % 256) as u8
-}
+// The answer with which a message is given.
+pub(crate) const MESSAGE: u8 = 1;
 
-fn high(n: usize) -> u8 {
-    (n / 256 % 256) as u8
-}
-
-// What was read where it is no message.
+// Tells what is no message.
 fn no_message(answer: u8, used: usize) -> [u8; READ] {
     [answer, 0, 0, 0, 0, 0, 0, 0, low(used)]
 }
 
-// What a family's message is as bytes.
-fn comlynx_message(h: comlynx::Header, used: usize) -> [u8; READ] {
-    let source = h.source as usize;
-    let destination = h.destination as usize;
+// Tells a message by the two bytes of its from, to and code.
+fn message(from: u16, to: u16, code: u16, len: usize, used: usize) -> [u8; READ] {
+    let from = from as usize;
+    let to = to as usize;
+    let code = code as usize;
     [
-        1,
-        high(source),
-        low(source),
-        high(destination),
-        low(destination),
-        h.kind,
-        0,
-        low(h.len),
+        MESSAGE,
+        high(from),
+        low(from),
+        high(to),
+        low(to),
+        high(code),
+        low(code),
+        low(len),
         low(used),
     ]
+}
+
+fn comlynx_message(h: comlynx::Header, used: usize) -> [u8; READ] {
+    message(h.source, h.destination, word(h.kind, 0), h.len, used)
 }
 
 fn eversolar_message(h: eversolar::Header, used: usize) -> [u8; READ] {
-    [
-        1,
-        h.source_first,
-        h.source_second,
-        h.destination_first,
-        h.destination_second,
-        h.control,
-        h.function,
-        low(h.len),
-        low(used),
-    ]
+    let from = word(h.source_first, h.source_second);
+    let to = word(h.destination_first, h.destination_second);
+    message(from, to, word(h.control, h.function), h.len, used)
 }
 
 fn fronius_message(h: fronius::Header, used: usize) -> [u8; READ] {
-    [
-        1,
-        0,
-        0,
-        h.device,
-        h.number,
-        h.command,
-        0,
-        low(h.len),
-        low(used),
-    ]
+    message(0, word(h.device, h.number), word(h.command, 0), h.len, used)
 }
 
 fn told(answer: Answer, used: usize) -> [u8; READ] {
@@ -86,17 +72,17 @@ pub(crate) fn read(port: u8, frame: &[u8], lent: &mut [u8]) -> [u8; READ] {
     told(answer, step.used)
 }
 
-// Writes a message, of which from, to and code are given, two bytes each.
+// Writes a message, of which from, to and code are given in two bytes each.
 pub(crate) fn write(port: u8, header: &[u8], payload: &[u8], lent: &mut [u8]) -> Written {
     match port {
-        1 => comlynx::write(
-            word(byte_at(header, 0), byte_at(header, 1)),
-            word(byte_at(header, 2), byte_at(header, 3)),
+        COMLYNX => comlynx::write(
+            word_at(header, 0),
+            word_at(header, 2),
             byte_at(header, 4),
             payload,
             lent,
         ),
-        2 => eversolar::write(
+        EVERSOLAR => eversolar::write(
             byte_at(header, 0),
             byte_at(header, 1),
             byte_at(header, 2),
@@ -113,13 +99,5 @@ pub(crate) fn write(port: u8, header: &[u8], payload: &[u8], lent: &mut [u8]) ->
             payload,
             lent,
         ),
-    }
-}
-
-// How many bytes were written, 0 where it was refused: no frame is empty.
-pub(crate) fn length_of(written: Written) -> usize {
-    match written {
-        Written::Done(n) => n,
-        Written::Refused(_) => 0,
     }
 }

@@ -1,20 +1,22 @@
 // Runs the published examples through reader and writer. Standard input is records, each a printed frame and what its document says that it is
 // (tests/published-frames makes them). Prints a line for each: document, the frame's number there, the answer, what was read, the verdict.
 mod families;
-mod parts;
 
+use families::MESSAGE;
 use families::READ;
-use families::length_of;
 use families::read;
 use families::write;
 use libc::STDIN_FILENO;
 use libc::STDOUT_FILENO;
-use parts::byte_at;
-use parts::part;
-use parts::size_at;
+use test_parts::COMLYNX;
+use test_parts::EVERSOLAR;
+use test_parts::FRONIUS;
+use test_parts::byte_at;
+use test_parts::length_of;
+use test_parts::part;
+use test_parts::size_at;
 
-// A record: its front, then room for data and room for a frame. The front: document, number, what is to be read (as `families` has it, so
-// how many bytes of the data and of the frame count is there too), and how many of the frame's bytes are printed.
+// A record has a front, then room for a payload and room for a frame.
 const FRONT: usize = 12;
 
 const PAYLOAD: usize = 48;
@@ -23,37 +25,50 @@ const FRAME: usize = 64;
 
 const RECORD: usize = FRONT + PAYLOAD + FRAME;
 
+// Where the front has the document, the frame's number in it, what is to be read (as `families` tells it, so that it says how many bytes of the
+// payload and of the frame count), and how many of the frame's bytes are printed.
+const DOCUMENT: usize = 0;
+
 const NUMBER: usize = 1;
 
 const TO_READ: usize = 2;
 
 const PRINTED: usize = 11;
 
-// Places in what is read.
-const DATA_SIZE: usize = 7;
+// Where what is read has its parts. From, to and code are two bytes each, one behind the other.
+const ANSWER: usize = 0;
+
+const FROM: usize = 1;
+
+const TO: usize = 3;
+
+const CODE: usize = 5;
+
+const PAYLOAD_SIZE: usize = 7;
 
 const USED: usize = 8;
+
+const PAIR: usize = 2;
+
+const HEADER: usize = 3 * PAIR;
 
 // What every reader is to be lent.
 const LENT: usize = 255;
 
-// The answer with which a message is given.
-const MESSAGE: u8 = 1;
-
 // How many records are read at most.
 const RECORDS: usize = 1000;
 
-fn data_of(record: &[u8]) -> &[u8] {
-    part(record, FRONT, size_at(record, TO_READ + DATA_SIZE))
+fn payload_of(record: &[u8]) -> &[u8] {
+    part(record, FRONT, size_at(record, TO_READ + PAYLOAD_SIZE))
 }
 
 fn frame_of(record: &[u8]) -> &[u8] {
     part(record, FRONT + PAYLOAD, size_at(record, TO_READ + USED))
 }
 
-// Whether what was read is what the document says, with its data.
+// Whether what was read is what the document says, with its payload.
 fn reads(record: &[u8], got: &[u8], lent: &[u8]) -> bool {
-    let payload = data_of(record);
+    let payload = payload_of(record);
     check::same(got, part(record, TO_READ, READ))
         & check::same(part(lent, 0, payload.len()), payload)
 }
@@ -88,8 +103,8 @@ fn print_bytes(s: &[u8]) {
     print(b" ");
 }
 
-// Data in hex, `-` where there are none.
-fn print_data(s: &[u8]) {
+// A payload in hex, `-` where it is empty.
+fn print_payload(s: &[u8]) {
     if s.len() == 0 {
         print(b"- ");
         return;
@@ -97,15 +112,15 @@ fn print_data(s: &[u8]) {
     print_bytes(s);
 }
 
-// From, to, code and data of a message.
+// From, to, code and payload of a message.
 fn print_message(got: &[u8], lent: &[u8]) {
-    if byte_at(got, 0) != MESSAGE {
+    if byte_at(got, ANSWER) != MESSAGE {
         return;
     }
-    print_bytes(part(got, 1, 2));
-    print_bytes(part(got, 3, 2));
-    print_bytes(part(got, 5, 2));
-    print_data(part(lent, 0, size_at(got, DATA_SIZE)));
+    print_bytes(part(got, FROM, PAIR));
+    print_bytes(part(got, TO, PAIR));
+    print_bytes(part(got, CODE, PAIR));
+    print_payload(part(lent, 0, size_at(got, PAYLOAD_SIZE)));
 }
 
 // Whether a record of that answer is read and, where that is a message, written as its document says.
@@ -125,12 +140,12 @@ fn print_verdict(agrees: bool, answer: u8) {
     print(b"damaged\n");
 }
 
-// The line of a record, of which `got` was read, its data in `lent`, and `again` was written.
+// The line of a record, of which `got` was read, its payload in `lent`, and `again` was written.
 fn report(record: &[u8], got: &[u8], lent: &[u8], again: &[u8]) {
     print(b"00");
-    print_number(byte_at(record, 0));
+    print_number(byte_at(record, DOCUMENT));
     print_number(byte_at(record, NUMBER));
-    print_number(byte_at(got, 0));
+    print_number(byte_at(got, ANSWER));
     print_message(got, lent);
     let answer = byte_at(record, TO_READ);
     print_verdict(
@@ -142,9 +157,9 @@ fn report(record: &[u8], got: &[u8], lent: &[u8], again: &[u8]) {
 // The port that has the family of a document.
 fn port_of(document: u8) -> u8 {
     match document {
-        0 => 1,
-        1 => 2,
-        _ => 3,
+        0 => COMLYNX,
+        1 => EVERSOLAR,
+        _ => FRONIUS,
     }
 }
 
@@ -155,12 +170,12 @@ fn try_record(record: &[u8]) {
     }
     let mut lent = [0u8; LENT];
     let mut again = [0u8; LENT];
-    let port = port_of(byte_at(record, 0));
+    let port = port_of(byte_at(record, DOCUMENT));
     let got = read(port, frame_of(record), &mut lent);
     let n = length_of(write(
         port,
-        part(record, TO_READ + 1, 6),
-        data_of(record),
+        part(record, TO_READ + FROM, HEADER),
+        payload_of(record),
         &mut again,
     ));
     report(record, &got, &lent, part(&again, 0, n));
