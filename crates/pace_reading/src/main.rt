@@ -2,18 +2,27 @@
 // 65,536; the rest is handed to the family's reader in pieces. Prints the family, the messages, the damages and a check number over the messages.
 use libc::STDIN_FILENO;
 use libc::STDOUT_FILENO;
+use numbers::least;
+use numbers::wide;
+use test_parts::COMLYNX;
+use test_parts::EVERSOLAR;
+use test_parts::FRONIUS;
+use test_parts::word_at;
 ghost use Prim.Native.Nat.{_≤_};
 ghost use lib.ListN.{length};
 
+// Where the input has the family and how long a piece is. The frames stand behind them.
+const FAMILY: usize = 0;
+
+const PIECE: usize = 1;
+
+const FRAMES: usize = 3;
+
+// How long a piece is that is said to have no byte.
+const WHOLE: usize = 65536;
+
 // What every reader is to be lent.
 const LENT: usize = 255;
-
-// The families, by the first byte.
-const COMLYNX: u8 = 1;
-
-const EVERSOLAR: u8 = 2;
-
-const FRONIUS: u8 = 3;
 
 struct Tally {
     messages: u64,
@@ -33,10 +42,6 @@ fn piece_end(at: usize, end: usize, piece: usize, len: usize) -> usize
     }
 }
 
-fn wide(b: u8) -> u64 {
-    b as u64
-}
-
 // The first `n` bytes added up.
 fn total_of(s: &[u8], n: usize) -> u64
     requires { ⌜ n ≤ length (now s) ⌝ }
@@ -44,16 +49,10 @@ fn total_of(s: &[u8], n: usize) -> u64
     let mut sum: u64 = 0;
     let mut i: usize = 0;
     while i < n {
-        sum = std::num::wrapping_add_u64(sum, wide(s[i]));
+        sum = std::num::wrapping_add_u64(sum, wide(s[i]) as u64);
         i += 1;
     }
     sum
-}
-
-fn least(a: usize, b: usize) -> usize
-    ensures { λ r. ⌜ r ≤ b ⌝ }
-{
-    if a < b { a } else { b }
 }
 
 // The sum of two numbers, modulo 2 to the 64.
@@ -61,9 +60,18 @@ fn plus(a: u64, b: u64) -> u64 {
     std::num::wrapping_add_u64(a, b)
 }
 
-// One message more, by its code byte and its length. Its place, its code and its data all count in the check number.
+// What is counted before the first call.
+fn none() -> Tally {
+    Tally {
+        messages: 0,
+        damages: 0,
+        check: 0,
+    }
+}
+
+// One message more, by its code byte and its length. Its number in the stream, its code and its data all count in the check number.
 fn one_more(t: Tally, code: u8, len: usize, lent: &[u8]) -> Tally {
-    let told = plus(wide(code), total_of(lent, least(len, lent.len())));
+    let told = plus(code as u64, total_of(lent, least(len, lent.len())));
     Tally {
         messages: plus(t.messages, 1),
         damages: t.damages,
@@ -95,15 +103,11 @@ fn of_comlynx(input: &[u8], piece: usize, lent: &mut [u8]) -> Tally {
     let reader = comlynx::Reader::fresh();
     let answer = comlynx::Answer::Done;
     let mut s = comlynx::Step {
-        reader: reader,
-        answer: answer,
+        reader,
+        answer,
         used: 0,
     };
-    let mut t = Tally {
-        messages: 0,
-        damages: 0,
-        check: 0,
-    };
+    let mut t = none();
     let mut at: usize = 0;
     let mut end: usize = 0;
     while at < input.len() {
@@ -132,15 +136,11 @@ fn of_eversolar(input: &[u8], piece: usize, lent: &mut [u8]) -> Tally {
     let reader = eversolar::Reader::fresh();
     let answer = eversolar::Answer::Done;
     let mut s = eversolar::Step {
-        reader: reader,
-        answer: answer,
+        reader,
+        answer,
         used: 0,
     };
-    let mut t = Tally {
-        messages: 0,
-        damages: 0,
-        check: 0,
-    };
+    let mut t = none();
     let mut at: usize = 0;
     let mut end: usize = 0;
     while at < input.len() {
@@ -169,15 +169,11 @@ fn of_fronius(input: &[u8], piece: usize, lent: &mut [u8]) -> Tally {
     let reader = fronius::Reader::fresh();
     let answer = fronius::Answer::Done;
     let mut s = fronius::Step {
-        reader: reader,
-        answer: answer,
+        reader,
+        answer,
         used: 0,
     };
-    let mut t = Tally {
-        messages: 0,
-        damages: 0,
-        check: 0,
-    };
+    let mut t = none();
     let mut at: usize = 0;
     let mut end: usize = 0;
     while at < input.len() {
@@ -204,17 +200,12 @@ fn tally_of(family: u8, input: &[u8], piece: usize, lent: &mut [u8]) -> Tally {
     if family == FRONIUS {
         return of_fronius(input, piece, lent);
     }
-    Tally {
-        messages: 0,
-        damages: 0,
-        check: 0,
-    }
+    none()
 }
 
-// How long a piece is.
-fn length_of(high: u8, low: u8) -> usize {
-    let n = high as usize * 256 + low as usize;
-    if n == 0 { 65536 } else { n }
+// How long a piece is, by what the input says.
+fn piece_of(said: u16) -> usize {
+    if said == 0 { WHOLE } else { said as usize }
 }
 
 fn print(n: u64, after: &[u8]) {
@@ -225,7 +216,7 @@ fn print(n: u64, after: &[u8]) {
 fn show(family: u8, piece: usize, input: &[u8]) {
     let mut lent = [0u8; LENT];
     let tally = tally_of(family, input, piece, &mut lent);
-    print(wide(family), b" ");
+    print(family as u64, b" ");
     print(tally.messages, b" ");
     print(tally.damages, b" ");
     print(tally.check, b"\n");
@@ -233,9 +224,9 @@ fn show(family: u8, piece: usize, input: &[u8]) {
 
 fn main() {
     let mut input = io::large_buffer();
-    let mut first = [0u8; 3];
+    let mut first = [0u8; FRAMES];
     io::read_full(STDIN_FILENO, &mut first);
     let n = io::read_full(STDIN_FILENO, &mut input);
-    let piece = length_of(first[1], first[2]);
-    show(first[0], piece, &input[..n]);
+    let piece = piece_of(word_at(&first, PIECE));
+    show(first[FAMILY], piece, &input[..n]);
 }

@@ -4,37 +4,40 @@
 use answers::Written;
 use libc::STDIN_FILENO;
 use libc::STDOUT_FILENO;
-ghost use Prim.Native.Nat.{_≤_};
+use numbers::least;
+use numbers::wide;
+use test_parts::COMLYNX;
+use test_parts::EVERSOLAR;
+use test_parts::FRONIUS;
+use test_parts::size_at;
+use test_parts::word_at;
+
+// What is called where it is no family's writer.
+const CHECKSUM: u8 = 4;
+
+// Where the input has what is called, how often, how much room is lent and which byte is looked at. The data stand behind them.
+const CALLED: usize = 0;
+
+const TIMES: usize = 1;
+
+const ROOM: usize = 3;
+
+const LOOK: usize = 5;
+
+const PAYLOAD: usize = 6;
 
 // Room for every frame.
 const LENT: usize = 600;
 
-// What is called, by the first byte.
-const COMLYNX: u8 = 1;
+// A refusal counts as its answer number and this.
+const REFUSED: usize = 1000;
 
-const EVERSOLAR: u8 = 2;
-
-const FRONIUS: u8 = 3;
-
-const CHECKSUM: u8 = 4;
-
-fn wide(b: u8) -> usize {
-    b as usize
-}
-
-// The byte looked at. Nobody knows before which it is, so that no call can be left out whose bytes the next call writes over.
-fn seen(lent: &[u8], look: usize) -> usize {
-    if look < lent.len() {
-        return wide(lent[look]);
-    }
-    0
-}
-
-// What a call told as one number: the length and the byte looked at, or its answer number from 1,000 on.
+// What a call told as one number: the length and the byte looked at, or a refusal. Nobody knows before which byte that is, so that no call can be
+// left out whose bytes the next call writes over.
 fn told(w: Written, lent: &[u8], look: usize) -> usize {
     match w {
-        Written::Done(length) => std::num::wrapping_add_usize(length, seen(lent, look)),
-        Written::Refused(why) => 1000 + why.number() as usize,
+        Written::Done(length) => std::num::wrapping_add_usize(length, size_at(lent, look)),
+        Written::Refused(why) => REFUSED + wide(why.number()),
     }
 }
 
@@ -104,17 +107,6 @@ fn sum_of(what: u8, times: u16, look: usize, bytes: &[u8], lent: &mut [u8]) -> u
     0
 }
 
-fn word(high: u8, low: u8) -> u16 {
-    high as u16 * 256 + low as u16
-}
-
-fn room_of(n: u16) -> usize
-    ensures { λ r. ⌜ r ≤ 600 ⌝ }
-{
-    let room = n as usize;
-    if room < LENT { room } else { LENT }
-}
-
 fn show(what: u8, times: u16, look: usize, bytes: &[u8], lent: &mut [u8]) {
     let sum = sum_of(what, times, look, bytes, lent);
     io::print_decimal(STDOUT_FILENO, sum as u64);
@@ -122,20 +114,19 @@ fn show(what: u8, times: u16, look: usize, bytes: &[u8], lent: &mut [u8]) {
     io::write_all(STDOUT_FILENO, &*lent);
 }
 
-// Lends so much room, and no more.
-fn with_room(room: usize, what: u8, times: u16, look: usize, bytes: &[u8])
-    requires { ⌜ room ≤ 600 ⌝ }
-{
+// Lends so much room, as far as there is.
+fn with_room(room: usize, what: u8, times: u16, look: usize, bytes: &[u8]) {
     let mut lent = [0u8; LENT];
+    let room = least(room, LENT);
     show(what, times, look, bytes, &mut lent[..room]);
 }
 
 fn main() {
     let mut input = io::large_buffer();
-    let mut first = [0u8; 6];
+    let mut first = [0u8; PAYLOAD];
     io::read_full(STDIN_FILENO, &mut first);
     let n = io::read_full(STDIN_FILENO, &mut input);
-    let times = word(first[1], first[2]);
-    let room = room_of(word(first[3], first[4]));
-    with_room(room, first[0], times, wide(first[5]), &input[..n]);
+    let times = word_at(&first, TIMES);
+    let room = word_at(&first, ROOM) as usize;
+    with_room(room, first[CALLED], times, wide(first[LOOK]), &input[..n]);
 }

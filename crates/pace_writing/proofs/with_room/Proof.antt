@@ -6,6 +6,9 @@ use borrow.Author.Needs.{needs}
 use Rattle.pace_writing.proofs.with_room.Statement.{statement}
 use Rattle.pace_writing.proofs.with_room.Tie as tie
 
+least-requires : tie.Need-least-requires
+least-requires c κs = search needs
+
 array-borrow-prefix-lent : tie.Need-array-borrow-prefix-lent
 array-borrow-prefix-lent c = search needs
 
@@ -20,4 +23,4 @@ returns c = search needs
 
 pub with-room-spec : {M : Type 1} → statement M
 with-room-spec =
-    tie.close (tie.spec array-borrow-prefix-lent slice-aggregate-show show-requires returns)
+    tie.close (tie.spec least-requires array-borrow-prefix-lent slice-aggregate-show show-requires returns)
