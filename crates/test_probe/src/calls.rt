@@ -18,39 +18,41 @@ use crate::sides;
 use crate::texts;
 use crate::values;
 use crate::wire::FAR;
-use crate::wire::byte_at;
+use crate::wire::WORD;
 use crate::wire::list_at;
 use crate::wire::list_size;
-use crate::wire::on;
-use crate::wire::part;
 use crate::wire::past_list;
 use crate::wire::put;
-use crate::wire::say;
+use crate::wire::say_list;
 use crate::wire::say_size;
-use crate::wire::span;
 use crate::writers;
 use libc::STDIN_FILENO;
+use numbers::least;
+use test_parts::byte_at;
+use test_parts::further;
+use test_parts::part;
 
-// Reads so many bytes to a place. Answers the place behind them, far away where they are not all there.
+// Reads so many bytes from an index on. Answers the index behind them, far away where they are not all there.
 fn read_on(call: &mut [u8], at: usize, n: usize) -> usize {
     if n == 0 {
         return at;
     }
-    let there = span(at, n, call.len());
-    let from = there.from;
-    let to = there.to;
-    if io::read_full(STDIN_FILENO, &mut call[from..to]) < n {
+    if call.len() < at {
+        return FAR;
+    }
+    let to = least(further(at, n), call.len());
+    if io::read_full(STDIN_FILENO, &mut call[at..to]) < n {
         return FAR;
     }
     to
 }
 
-// Reads a list to a place, where there is one.
+// Reads a list from an index on, where there is one.
 fn read_list(call: &mut [u8], at: usize, there: bool) -> usize {
     if !there {
         return at;
     }
-    let next = read_on(call, at, 2);
+    let next = read_on(call, at, WORD);
     read_on(call, next, list_size(call, at))
 }
 
@@ -65,10 +67,10 @@ fn read_three(call: &mut [u8], at: usize, there: bool) -> usize {
 pub(crate) fn read(call: &mut [u8]) -> usize {
     let next = read_on(call, 0, 1);
     let shape = shape_of(byte_at(call, 0));
-    let lists = shape.2;
-    let next = read_on(call, next, shape.1);
+    let lists = shape.lists;
+    let next = read_on(call, next, shape.front);
     let next = read_list(call, next, lists > 0);
-    let next = read_on(call, next, shape.3);
+    let next = read_on(call, next, shape.between);
     let next = read_list(call, next, lists > 1);
     read_three(call, next, lists > 2)
 }
@@ -79,12 +81,12 @@ fn past_three(s: &[u8], at: usize) -> usize {
 
 // Where a call has the list that it lends, if it lends one.
 fn lent_at(s: &[u8], shape: Shape) -> usize {
-    let first = on(1, shape.1);
-    let which = shape.6;
+    let first = further(1, shape.front);
+    let which = shape.lent;
     if which < 2 {
         return first;
     }
-    let second = on(past_list(s, first), shape.3);
+    let second = further(past_list(s, first), shape.between);
     if which == 2 {
         return second;
     }
@@ -96,8 +98,7 @@ fn say_lent(lent: &[u8], which: u8) {
     if which == 0 {
         return;
     }
-    say_size(lent.len());
-    say(lent);
+    say_list(lent);
 }
 
 // How many bytes a result has behind its head and its state.
@@ -105,7 +106,7 @@ fn lent_size(n: usize, which: u8) -> usize {
     if which == 0 {
         return 0;
     }
-    on(2, n)
+    further(WORD, n)
 }
 
 // Puts out a result's length, where it is known before the call is made.
@@ -137,20 +138,22 @@ fn make_with(who: u8, s: &[u8], first: &[u8], lent: &mut [u8], head: usize) {
 pub(crate) fn make(s: &[u8], lent: &mut [u8]) {
     let op = byte_at(s, 0);
     let shape = shape_of(op);
-    let head = shape.4;
-    let which = shape.6;
+    let who = shape.who;
+    let head = shape.head;
+    let which = shape.lent;
     let list = list_at(s, lent_at(s, shape));
     let n = rosters::counted(op, list.len());
-    say_length(shape.0, on(on(head, shape.5), lent_size(n, which)));
+    say_length(
+        who,
+        further(further(head, shape.state), lent_size(n, which)),
+    );
     put(lent, 0, part(list, 0, n));
-    let there = span(0, n, lent.len());
-    let from = there.from;
-    let to = there.to;
+    let to = least(n, lent.len());
     make_with(
-        shape.0,
+        who,
         s,
-        list_at(s, on(1, shape.1)),
-        &mut lent[from..to],
+        list_at(s, further(1, shape.front)),
+        &mut lent[0..to],
         head,
     );
     say_lent(part(lent, 0, n), which);

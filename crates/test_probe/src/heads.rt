@@ -1,8 +1,9 @@
-// The head of a result: the answer number and the numbers behind it, as bytes, up to as many as any result has. How many of them
-// count is in `shapes`.
-use crate::wire::part;
+// The head of a result: the answer number and the numbers behind it, as bytes, up to as many as any result has. `shapes` says how many of
+// them count.
+use crate::wire::put;
 use crate::wire::say;
 use answers::Refusal;
+use test_parts::part;
 
 pub(crate) const HEAD: usize = 11;
 
@@ -33,19 +34,10 @@ pub(crate) fn told(number: u8, n: u64) -> [u8; HEAD] {
 
 // Answer number 0, a kind, and a number low byte first.
 pub(crate) fn kind_told(kind: u8, n: u64) -> [u8; HEAD] {
-    [
-        0,
-        kind,
-        byte_of(n, 1),
-        byte_of(n, 0x100),
-        byte_of(n, 0x10000),
-        byte_of(n, 0x1000000),
-        byte_of(n, 0x100000000),
-        byte_of(n, 0x10000000000),
-        byte_of(n, 0x1000000000000),
-        byte_of(n, 0x100000000000000),
-        0,
-    ]
+    let others = told(kind, n);
+    let mut head = [0u8; HEAD];
+    put(&mut head, 1, part(&others, 0, HEAD - 1));
+    head
 }
 
 pub(crate) fn size_told(number: u8, n: usize) -> [u8; HEAD] {

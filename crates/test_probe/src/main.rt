@@ -12,7 +12,7 @@ mod values;
 mod wire;
 mod writers;
 
-use wire::part;
+use test_parts::part;
 
 // The most calls that are made of one input.
 const CALLS_MAX: u32 = 4294967295;

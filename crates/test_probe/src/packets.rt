@@ -6,28 +6,29 @@ use crate::shapes::LISTING_STATE;
 use crate::shapes::PORTS_STATE;
 use crate::sides::ports_of;
 use crate::sides::say_ports;
-use crate::wire::byte_at;
-use crate::wire::high;
-use crate::wire::low;
-use crate::wire::part;
+use crate::wire::QUAD;
 use crate::wire::quad_at;
 use crate::wire::say;
 use listing::Heard;
 use listing::Listing;
+use test_parts::byte_at;
+use test_parts::high;
+use test_parts::low;
+use test_parts::part;
 
 fn listing_of(s: &[u8]) -> Listing {
     let ports = ports_of(s);
     Listing {
         ports,
         packets: quad_at(s, 1 + PORTS_STATE) as usize,
-        messages: quad_at(s, 9 + PORTS_STATE),
-        damages: quad_at(s, 17 + PORTS_STATE),
+        messages: quad_at(s, 1 + PORTS_STATE + QUAD),
+        damages: quad_at(s, 1 + PORTS_STATE + 2 * QUAD),
     }
 }
 
 fn say_count(n: u64) {
     let bytes = told(0, n);
-    say(part(&bytes, 1, 8));
+    say(part(&bytes, 1, QUAD));
 }
 
 pub(crate) fn say_listing(listing: Listing) {

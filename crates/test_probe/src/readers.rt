@@ -9,15 +9,34 @@ use crate::shapes::COMLYNX_HELD;
 use crate::shapes::EVERSOLAR_HELD;
 use crate::shapes::FRONIUS_HELD;
 use crate::sides::say_ports;
-use crate::wire::byte_at;
-use crate::wire::high;
-use crate::wire::low;
-use crate::wire::part;
 use crate::wire::put;
 use crate::wire::say;
+use crate::wire::say_size;
 use crate::wire::size_at;
 use listing::Listing;
 use ports::Ports;
+use test_parts::byte_at;
+use test_parts::high;
+use test_parts::low;
+use test_parts::part;
+
+// The answer number of a message.
+pub(crate) const MESSAGE: u8 = 1;
+
+// Where a state has its numbers behind its held bytes. The byte before the state, an opcode or the last byte of another state, counts too.
+const STAGE: usize = 1;
+
+const COUNT: usize = 2;
+
+const LEN: usize = 4;
+
+// Puts out what every family's state has.
+fn say_state(held: &[u8], stage: u8, count: usize) {
+    let stage = [stage];
+    say(held);
+    say(&stage);
+    say_size(count);
+}
 
 // ---- ComLynx
 
@@ -26,23 +45,21 @@ pub(crate) fn comlynx_state(s: &[u8]) -> comlynx::Reader {
     put(&mut held, 0, part(s, 1, COMLYNX_HELD));
     comlynx::Reader {
         held,
-        stage: byte_at(s, 1 + COMLYNX_HELD),
-        count: size_at(s, 2 + COMLYNX_HELD),
+        stage: byte_at(s, COMLYNX_HELD + STAGE),
+        count: size_at(s, COMLYNX_HELD + COUNT),
     }
 }
 
 pub(crate) fn say_comlynx(state: comlynx::Reader) {
     let held = state.held;
-    let others = [state.stage, low(state.count), high(state.count)];
-    say(&held);
-    say(&others);
+    say_state(&held, state.stage, state.count);
 }
 
 fn comlynx_message(h: comlynx::Header, used: usize) -> [u8; HEAD] {
     let source = h.source as usize;
     let destination = h.destination as usize;
     [
-        1,
+        MESSAGE,
         low(used),
         high(used),
         low(source),
@@ -80,28 +97,21 @@ pub(crate) fn eversolar_state(s: &[u8]) -> eversolar::Reader {
     put(&mut held, 0, part(s, 1, EVERSOLAR_HELD));
     eversolar::Reader {
         held,
-        stage: byte_at(s, 1 + EVERSOLAR_HELD),
-        count: size_at(s, 2 + EVERSOLAR_HELD),
-        len: size_at(s, 4 + EVERSOLAR_HELD),
+        stage: byte_at(s, EVERSOLAR_HELD + STAGE),
+        count: size_at(s, EVERSOLAR_HELD + COUNT),
+        len: size_at(s, EVERSOLAR_HELD + LEN),
     }
 }
 
 pub(crate) fn say_eversolar(state: eversolar::Reader) {
     let held = state.held;
-    let others = [
-        state.stage,
-        low(state.count),
-        high(state.count),
-        low(state.len),
-        high(state.len),
-    ];
-    say(&held);
-    say(&others);
+    say_state(&held, state.stage, state.count);
+    say_size(state.len);
 }
 
 fn eversolar_message(h: eversolar::Header, used: usize) -> [u8; HEAD] {
     [
-        1,
+        MESSAGE,
         low(used),
         high(used),
         h.source_first,
@@ -139,28 +149,21 @@ pub(crate) fn fronius_state(s: &[u8]) -> fronius::Reader {
     put(&mut held, 0, part(s, 1, FRONIUS_HELD));
     fronius::Reader {
         held,
-        stage: byte_at(s, 1 + FRONIUS_HELD),
-        count: size_at(s, 2 + FRONIUS_HELD),
-        len: size_at(s, 4 + FRONIUS_HELD),
+        stage: byte_at(s, FRONIUS_HELD + STAGE),
+        count: size_at(s, FRONIUS_HELD + COUNT),
+        len: size_at(s, FRONIUS_HELD + LEN),
     }
 }
 
 pub(crate) fn say_fronius(state: fronius::Reader) {
     let held = state.held;
-    let others = [
-        state.stage,
-        low(state.count),
-        high(state.count),
-        low(state.len),
-        high(state.len),
-    ];
-    say(&held);
-    say(&others);
+    say_state(&held, state.stage, state.count);
+    say_size(state.len);
 }
 
 fn fronius_message(h: fronius::Header, used: usize) -> [u8; HEAD] {
     [
-        1,
+        MESSAGE,
         low(used),
         high(used),
         h.device,

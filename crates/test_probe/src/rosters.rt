@@ -2,10 +2,7 @@
 use crate::heads::HEAD;
 use crate::heads::refused;
 use crate::heads::told;
-use crate::wire::byte_at;
 use crate::wire::list_at;
-use crate::wire::on;
-use crate::wire::part;
 use crate::wire::past_list;
 use crate::wire::put;
 use roster::Found;
@@ -16,6 +13,9 @@ use roster::Place;
 use roster::ROSTER_SIZE;
 use roster::Removed;
 use roster::SERIAL_SIZE;
+use test_parts::byte_at;
+use test_parts::further as on;
+use test_parts::part;
 
 // The answer that a list of another number of places has.
 const SPOILT: u8 = 18;

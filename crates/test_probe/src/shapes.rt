@@ -1,5 +1,6 @@
 // The bytes of each call and of its result.
 use crate::wire::FAR;
+use crate::wire::QUAD;
 
 // Where a reader's held bytes end in a state, and where the state ends.
 pub(crate) const COMLYNX_HELD: usize = 265;
@@ -17,7 +18,7 @@ pub(crate) const FRONIUS_STATE: usize = FRONIUS_HELD + 5;
 // Where the state of all ports ends, and that of a listing.
 pub(crate) const PORTS_STATE: usize = COMLYNX_STATE + EVERSOLAR_STATE + FRONIUS_STATE;
 
-pub(crate) const LISTING_STATE: usize = PORTS_STATE + 24;
+pub(crate) const LISTING_STATE: usize = PORTS_STATE + 3 * QUAD;
 
 // Who makes a call.
 pub(crate) const VALUES: u8 = 0;
@@ -40,64 +41,134 @@ pub(crate) const SIDES: u8 = 8;
 
 pub(crate) const PACKETS: u8 = 9;
 
-// 0: who makes the call.
-// 1 to 3: the call behind its opcode: so many bytes; so many lists, none, one, two or five; so many bytes behind the first.
-// 4 to 6: its result: so many bytes of head; so many of state; then what it was lent, the list of that place or none (0).
-pub(crate) struct Shape(
-    pub(crate) u8,
-    pub(crate) usize,
-    pub(crate) u8,
-    pub(crate) usize,
-    pub(crate) usize,
-    pub(crate) usize,
-    pub(crate) u8,
-);
+// The bytes of a call and of its result.
+pub(crate) struct Shape {
+    // who makes it
+    pub(crate) who: u8,
+    // how many bytes it has between its opcode and its lists
+    pub(crate) front: usize,
+    // how many lists it has: none, one, two or five
+    pub(crate) lists: u8,
+    // how many bytes it has behind its first list
+    pub(crate) between: usize,
+    // how many bytes of head its result has
+    pub(crate) head: usize,
+    // how many bytes of state its result has
+    pub(crate) state: usize,
+    // which of its lists it lends, counted from 1, or 0 where it lends none; the result ends with that list as it is then
+    pub(crate) lent: u8,
+}
+
+// A call that reads from a state on. It has a piece and a lent list.
+fn reader(who: u8, front: usize, state: usize, head: usize) -> Shape {
+    Shape {
+        who,
+        front,
+        lists: 2,
+        between: 0,
+        head,
+        state,
+        lent: 2,
+    }
+}
+
+// A call that gives a fresh state.
+fn fresh(state: usize) -> Shape {
+    Shape {
+        who: FRESH,
+        front: 0,
+        lists: 0,
+        between: 0,
+        head: 1,
+        state,
+        lent: 0,
+    }
+}
+
+// A call that writes into the last of its lists and tells a length.
+fn written(who: u8, front: usize, lists: u8, between: usize) -> Shape {
+    Shape {
+        who,
+        front,
+        lists,
+        between,
+        head: 3,
+        state: 0,
+        lent: lists,
+    }
+}
+
+// A call over a roster. The first of its lists is the roster, which it lends.
+fn roster(lists: u8, between: usize, head: usize) -> Shape {
+    Shape {
+        who: ROSTERS,
+        front: 0,
+        lists,
+        between,
+        head,
+        state: 0,
+        lent: 1,
+    }
+}
+
+// A call that lends nothing.
+fn value(front: usize, lists: u8, head: usize) -> Shape {
+    Shape {
+        who: VALUES,
+        front,
+        lists,
+        between: 0,
+        head,
+        state: 0,
+        lent: 0,
+    }
+}
 
 // A call that is not listed has more bytes than there are.
 pub(crate) fn shape_of(op: u8) -> Shape {
     match op {
-        0x01 => Shape(COMLYNX, COMLYNX_STATE, 2, 0, 10, COMLYNX_STATE, 2),
-        0x02 => Shape(EVERSOLAR, EVERSOLAR_STATE, 2, 0, 11, EVERSOLAR_STATE, 2),
-        0x03 => Shape(FRONIUS, FRONIUS_STATE, 2, 0, 8, FRONIUS_STATE, 2),
-        0x04 => Shape(FRESH, 0, 0, 0, 1, COMLYNX_STATE, 0),
-        0x05 => Shape(FRESH, 0, 0, 0, 1, EVERSOLAR_STATE, 0),
-        0x06 => Shape(FRESH, 0, 0, 0, 1, FRONIUS_STATE, 0),
-        0x11 => Shape(WRITERS, 5, 2, 0, 3, 0, 2),
-        0x12 => Shape(WRITERS, 6, 2, 0, 3, 0, 2),
-        0x13 => Shape(WRITERS, 3, 2, 0, 3, 0, 2),
-        0x21 => Shape(VALUES, 1, 1, 0, 4, 0, 0),
-        0x22 => Shape(VALUES, 2, 0, 0, 4, 0, 0),
-        0x23 => Shape(VALUES, 3, 0, 0, 3, 0, 0),
-        0x31 => Shape(WRITERS, 1, 1, 0, 3, 0, 1),
-        0x32 => Shape(WRITERS, 2, 1, 0, 3, 0, 1),
-        0x33 => Shape(WRITERS, 0, 2, 1, 3, 0, 2),
-        0x34 => Shape(VALUES, 2, 1, 0, 5, 0, 0),
-        0x35 => Shape(VALUES, 9, 0, 0, 9, 0, 0),
-        0x36 => Shape(VALUES, 2, 0, 0, 3, 0, 0),
-        0x37 => Shape(VALUES, 2, 0, 0, 3, 0, 0),
-        0x41 => Shape(VALUES, 1, 1, 0, 9, 0, 0),
-        0x42 => Shape(VALUES, 2, 1, 0, 10, 0, 0),
-        0x51 => Shape(ROSTERS, 0, 2, 0, 2, 0, 1),
-        0x52 => Shape(ROSTERS, 0, 1, 1, 1, 0, 1),
-        0x53 => Shape(ROSTERS, 0, 2, 0, 2, 0, 1),
-        0x54 => Shape(ROSTERS, 0, 2, 0, 2, 0, 1),
-        0x55 => Shape(ROSTERS, 0, 1, 1, 1, 0, 1),
-        0x56 => Shape(ROSTERS, 0, 2, 0, 2, 0, 1),
-        0x61 => Shape(VALUES, 0, 1, 0, 5, 0, 0),
-        0x62 => Shape(WRITERS, 1, 2, 0, 3, 0, 2),
-        0x71 => Shape(VALUES, 0, 1, 0, 3, 0, 0),
-        0x72 => Shape(VALUES, 2, 1, 0, 3, 0, 0),
-        0x73 => Shape(VALUES, 2, 0, 0, 3, 0, 0),
-        0x74 => Shape(VALUES, 2, 1, 0, 3, 0, 0),
-        0x81 => Shape(TEXTS, 0, 1, 0, 3, 0, 1),
-        0x82 => Shape(TEXTS, 1, 5, 0, 3, 0, 5),
-        0x83 => Shape(TEXTS, 2, 1, 0, 3, 0, 1),
-        0x84 => Shape(TEXTS, 1, 1, 0, 3, 0, 1),
-        0x85 => Shape(TEXTS, 16, 1, 0, 3, 0, 1),
-        0x86 => Shape(FRESH, 0, 0, 0, 1, PORTS_STATE, 0),
-        0x87 => Shape(SIDES, PORTS_STATE + 1, 2, 0, 0, PORTS_STATE, 2),
-        0x88 => Shape(FRESH, 0, 0, 0, 1, LISTING_STATE, 0),
-        0x89 => Shape(PACKETS, LISTING_STATE + 1, 2, 0, 6, LISTING_STATE, 2),
-        _ => Shape(VALUES, FAR, 0, 0, 0, 0, 0),
+        0x01 => reader(COMLYNX, COMLYNX_STATE, COMLYNX_STATE, 10),
+        0x02 => reader(EVERSOLAR, EVERSOLAR_STATE, EVERSOLAR_STATE, 11),
+        0x03 => reader(FRONIUS, FRONIUS_STATE, FRONIUS_STATE, 8),
+        0x04 => fresh(COMLYNX_STATE),
+        0x05 => fresh(EVERSOLAR_STATE),
+        0x06 => fresh(FRONIUS_STATE),
+        0x11 => written(WRITERS, 5, 2, 0),
+        0x12 => written(WRITERS, 6, 2, 0),
+        0x13 => written(WRITERS, 3, 2, 0),
+        0x21 => value(1, 1, 4),
+        0x22 => value(2, 0, 4),
+        0x23 => value(3, 0, 3),
+        0x31 => written(WRITERS, 1, 1, 0),
+        0x32 => written(WRITERS, 2, 1, 0),
+        0x33 => written(WRITERS, 0, 2, 1),
+        0x34 => value(2, 1, 5),
+        0x35 => value(9, 0, 9),
+        0x36 => value(2, 0, 3),
+        0x37 => value(2, 0, 3),
+        0x41 => value(1, 1, 9),
+        0x42 => value(2, 1, 10),
+        0x51 => roster(2, 0, 2),
+        0x52 => roster(1, 1, 1),
+        0x53 => roster(2, 0, 2),
+        0x54 => roster(2, 0, 2),
+        0x55 => roster(1, 1, 1),
+        0x56 => roster(2, 0, 2),
+        0x61 => value(0, 1, 5),
+        0x62 => written(WRITERS, 1, 2, 0),
+        0x71 => value(0, 1, 3),
+        0x72 => value(2, 1, 3),
+        0x73 => value(2, 0, 3),
+        0x74 => value(2, 1, 3),
+        0x81 => written(TEXTS, 0, 1, 0),
+        0x82 => written(TEXTS, 1, 5, 0),
+        0x83 => written(TEXTS, 2, 1, 0),
+        0x84 => written(TEXTS, 1, 1, 0),
+        0x85 => written(TEXTS, 16, 1, 0),
+        0x86 => fresh(PORTS_STATE),
+        0x87 => reader(SIDES, PORTS_STATE + 1, PORTS_STATE, 0),
+        0x88 => fresh(LISTING_STATE),
+        0x89 => reader(PACKETS, LISTING_STATE + 1, LISTING_STATE, 6),
+        _ => value(FAR, 0, 0),
     }
 }

@@ -1,4 +1,5 @@
 // The readers of all ports side by side.
+use crate::readers::MESSAGE;
 use crate::readers::comlynx_state;
 use crate::readers::eversolar_state;
 use crate::readers::fronius_state;
@@ -8,30 +9,26 @@ use crate::readers::say_fronius;
 use crate::shapes::COMLYNX_STATE;
 use crate::shapes::EVERSOLAR_STATE;
 use crate::shapes::PORTS_STATE;
-use crate::wire::FAR;
-use crate::wire::byte_at;
-use crate::wire::high;
-use crate::wire::low;
-use crate::wire::on;
-use crate::wire::part;
+use crate::wire::WORD;
 use crate::wire::say;
+use crate::wire::say_list;
 use crate::wire::say_size;
 use ports::Answer;
 use ports::Ports;
+use test_parts::byte_at;
+use test_parts::further;
+use test_parts::high;
+use test_parts::low;
+use test_parts::part;
 
-// The head of a result here has three lists, and so no length of its own.
-const TOLD: usize = 17;
-
-struct Told {
-    len: usize,
-    bytes: [u8; TOLD],
-}
+// How many bytes are told where all three lists are empty: the number, the bytes used, the length of each list, and how many data bytes there are.
+const TOLD: usize = 1 + 5 * WORD;
 
 // A state is read behind the byte that its bytes begin with, be it the opcode or the last of the state before.
 pub(crate) fn ports_of(s: &[u8]) -> Ports {
     let first = comlynx_state(s);
-    let second = eversolar_state(part(s, COMLYNX_STATE, FAR));
-    let third = fronius_state(part(s, COMLYNX_STATE + EVERSOLAR_STATE, FAR));
+    let second = eversolar_state(part(s, COMLYNX_STATE, PORTS_STATE));
+    let third = fronius_state(part(s, COMLYNX_STATE + EVERSOLAR_STATE, PORTS_STATE));
     Ports {
         comlynx: first,
         eversolar: second,
@@ -48,120 +45,71 @@ pub(crate) fn say_ports(ports: Ports) {
     say_fronius(third);
 }
 
-fn number_told(number: u8, used: usize) -> Told {
-    let bytes = [
-        number,
-        low(used),
-        high(used),
-        0,
-        0,
-        0,
-        0,
-        0,
-        0,
-        0,
-        0,
-        0,
-        0,
-        0,
-        0,
-        0,
-        0,
-    ];
-    Told { len: 11, bytes }
+// Puts out what is told of an answer: first its length with all that follows behind it, then the number and the bytes used. Of a message from,
+// to, code and the number of its data bytes follow.
+fn say_told(
+    number: u8,
+    used: usize,
+    from: &[u8],
+    to: &[u8],
+    code: &[u8],
+    len: usize,
+    behind: usize,
+) {
+    let lists = further(further(from.len(), to.len()), code.len());
+    let number = [number];
+    say_size(further(further(TOLD, lists), behind));
+    say(&number);
+    say_size(used);
+    say_list(from);
+    say_list(to);
+    say_list(code);
+    say_size(len);
 }
 
-fn comlynx_told(h: comlynx::Header, used: usize) -> Told {
+fn say_number(number: u8, used: usize, behind: usize) {
+    say_told(number, used, b"", b"", b"", 0, behind);
+}
+
+fn say_comlynx_message(h: comlynx::Header, used: usize, behind: usize) {
     let source = h.source as usize;
     let destination = h.destination as usize;
-    let bytes = [
-        1,
-        low(used),
-        high(used),
-        2,
-        0,
-        high(source),
-        low(source),
-        2,
-        0,
-        high(destination),
-        low(destination),
-        1,
-        0,
-        h.kind,
-        low(h.len),
-        high(h.len),
-        0,
-    ];
-    Told { len: 16, bytes }
+    let from = [high(source), low(source)];
+    let to = [high(destination), low(destination)];
+    let code = [h.kind];
+    say_told(MESSAGE, used, &from, &to, &code, h.len, behind);
 }
 
-fn eversolar_told(h: eversolar::Header, used: usize) -> Told {
-    let bytes = [
-        1,
-        low(used),
-        high(used),
-        2,
-        0,
-        h.source_first,
-        h.source_second,
-        2,
-        0,
-        h.destination_first,
-        h.destination_second,
-        2,
-        0,
-        h.control,
-        h.function,
-        low(h.len),
-        high(h.len),
-    ];
-    Told { len: 17, bytes }
+fn say_eversolar_message(h: eversolar::Header, used: usize, behind: usize) {
+    let from = [h.source_first, h.source_second];
+    let to = [h.destination_first, h.destination_second];
+    let code = [h.control, h.function];
+    say_told(MESSAGE, used, &from, &to, &code, h.len, behind);
 }
 
-fn fronius_told(h: fronius::Header, used: usize) -> Told {
-    let bytes = [
-        1,
-        low(used),
-        high(used),
-        0,
-        0,
-        2,
-        0,
-        h.device,
-        h.number,
-        1,
-        0,
-        h.command,
-        low(h.len),
-        high(h.len),
-        0,
-        0,
-        0,
-    ];
-    Told { len: 14, bytes }
+fn say_fronius_message(h: fronius::Header, used: usize, behind: usize) {
+    let to = [h.device, h.number];
+    let code = [h.command];
+    say_told(MESSAGE, used, b"", &to, &code, h.len, behind);
 }
 
-fn answer_told(answer: Answer, used: usize) -> Told {
+fn say_answer(answer: Answer, used: usize, behind: usize) {
     match answer {
-        Answer::Done => number_told(0, used),
-        Answer::ComLynx(h) => comlynx_told(h, used),
-        Answer::Eversolar(h) => eversolar_told(h, used),
-        Answer::Fronius(h) => fronius_told(h, used),
-        Answer::Damaged(what) => number_told(what.number(), used),
-        Answer::Refused(why) => number_told(why.number(), used),
+        Answer::Done => say_number(0, used, behind),
+        Answer::ComLynx(h) => say_comlynx_message(h, used, behind),
+        Answer::Eversolar(h) => say_eversolar_message(h, used, behind),
+        Answer::Fronius(h) => say_fronius_message(h, used, behind),
+        Answer::Damaged(what) => say_number(what.number(), used, behind),
+        Answer::Refused(why) => say_number(why.number(), used, behind),
     }
 }
 
-// Puts out the result's length too, which the answer decides.
+// The answer decides how long the result is, so that its length is put out here. The state and what was lent stand behind what is told.
 pub(crate) fn call(s: &[u8], piece: &[u8], lent: &mut [u8]) {
-    let others = on(PORTS_STATE + 2, lent.len());
+    let behind = further(PORTS_STATE + WORD, lent.len());
     let step = ports_of(s).step(byte_at(s, 1 + PORTS_STATE), piece, lent);
     let answer = step.answer;
     let ports = step.ports;
-    let told = answer_told(answer, step.used);
-    let bytes = told.bytes;
-    say_size(on(told.len, others));
-    say(part(&bytes, 0, told.len));
+    say_answer(answer, step.used, behind);
     say_ports(ports);
 }

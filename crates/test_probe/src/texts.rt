@@ -1,9 +1,9 @@
 // The lines of a listing.
-use crate::wire::byte_at;
 use crate::wire::list_at;
 use crate::wire::past_list;
 use crate::wire::quad_at;
 use answers::Written;
+use test_parts::byte_at;
 
 // The line of a message, by its port and its four lists.
 fn message(s: &[u8], lent: &mut [u8]) -> Written {

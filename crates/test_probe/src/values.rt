@@ -4,9 +4,6 @@ use crate::heads::kind_told;
 use crate::heads::refused;
 use crate::heads::three_told;
 use crate::heads::told;
-use crate::wire::byte_at;
-use crate::wire::high;
-use crate::wire::low;
 use crate::wire::quad_at;
 use crate::wire::size_at;
 use crate::wire::word_at;
@@ -18,6 +15,9 @@ use eversolar_meaning::Wait;
 use fronius_meaning::measured::Measured;
 use fronius_meaning::reading::Read;
 use fronius_meaning::reading::Reading;
+use test_parts::byte_at;
+use test_parts::high;
+use test_parts::low;
 use uplink::Received;
 
 fn meaning(kind: u8, payload: &[u8]) -> [u8; HEAD] {
@@ -65,7 +65,7 @@ fn wait(serial: u64, attempt: u8) -> [u8; HEAD] {
     }
 }
 
-// A number as it is; 0 where it is below 0.
+// A number as it is, and 0 where it is below 0.
 fn magnitude(x: i64) -> u64 {
     if x >= 0 {
         return x as u64;
@@ -98,23 +98,30 @@ fn pattern(x: f64) -> u64 {
 }
 
 // A reading's kind by its number, and its double.
-struct Kinded(u8, f64);
+struct Kinded {
+    kind: u8,
+    value: f64,
+}
+
+fn of_kind(kind: u8, value: f64) -> Kinded {
+    Kinded { kind, value }
+}
 
 fn valued(reading: Reading) -> Kinded {
     match reading {
-        Reading::Power(x) => Kinded(1, x),
-        Reading::Energy(x) => Kinded(2, x),
-        Reading::Voltage(x) => Kinded(3, x),
-        Reading::Current(x) => Kinded(4, x),
-        Reading::Frequency(x) => Kinded(5, x),
-        Reading::Minutes(x) => Kinded(6, x),
-        Reading::Money(x) => Kinded(7, x),
+        Reading::Power(x) => of_kind(1, x),
+        Reading::Energy(x) => of_kind(2, x),
+        Reading::Voltage(x) => of_kind(3, x),
+        Reading::Current(x) => of_kind(4, x),
+        Reading::Frequency(x) => of_kind(5, x),
+        Reading::Minutes(x) => of_kind(6, x),
+        Reading::Money(x) => of_kind(7, x),
     }
 }
 
 fn value_told(reading: Reading) -> [u8; HEAD] {
     let v = valued(reading);
-    kind_told(v.0, pattern(v.1))
+    kind_told(v.kind, pattern(v.value))
 }
 
 fn reading(device: u8, command: u8, payload: &[u8]) -> [u8; HEAD] {

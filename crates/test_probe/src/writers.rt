@@ -1,12 +1,13 @@
 // The writers of the families and of the packet, and the requests of the Eversolar master.
 use crate::heads::HEAD;
 use crate::heads::size_told;
-use crate::wire::byte_at;
 use crate::wire::past_list;
 use crate::wire::word_at;
 use answers::Written;
 use eversolar_requests::ToAll;
 use eversolar_requests::ToOne;
+use test_parts::byte_at;
+use test_parts::length_of;
 
 fn to_all(which: u8) -> ToAll {
     match which {
@@ -44,14 +45,6 @@ pub(crate) fn write(op: u8, s: &[u8], first: &[u8], lent: &mut [u8]) -> Written 
         0x32 => eversolar_requests::ask_one(to_one(byte_at(s, 1)), byte_at(s, 2), lent),
         0x33 => eversolar_requests::give_address(first, byte_at(s, past_list(s, 1)), lent),
         _ => uplink::write(byte_at(s, 1), first, lent),
-    }
-}
-
-// How many bytes were written.
-fn length_of(w: Written) -> usize {
-    match w {
-        Written::Done(n) => n,
-        Written::Refused(_) => 0,
     }
 }
 
