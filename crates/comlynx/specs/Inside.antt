@@ -26,7 +26,7 @@ use Rattle.comlynx.specs.declared.reader.End.the-variants.{UsedUp, Close
 abbrev pub runLength : ℕ
 runLength = 16
 
--- `plain`: neither of the two bytes that mean something, from `at` on for n places
+-- `plain`: neither of the two bytes that mean something, from `at` on, n of them
 abbrev pub Plain : ℕ → Type 0
 Plain b = (b ≡ flag → ⊥) × (b ≡ escape → ⊥)
 
@@ -75,7 +75,7 @@ given answer = Delivery.given (λ (h : Header). h .len) 8 (told answer)
 
 -- ---- the writer
 
--- `put` and `put_stuffed`: bytes are stored stuffed from `at` on, and the place after them is told
+-- `put` and `put_stuffed`: bytes are stored stuffed from `at` on, and the index after them is told
 abbrev pub Stuffs : List ℕ → ℕ → List ℕ → ℕ → List ℕ → Type 0
 Stuffs bytes at lent r later = (r ≡ at + length (stuffed bytes)) × (later ≡ sets lent at (stuffed bytes))
 

@@ -224,7 +224,7 @@ fn take_in(count: usize, held: &mut [u8; BODY], piece: &[u8], at: usize)
     }
 }
 
-// Takes in plain bytes from `from` on by runs, up to `stop` at most; gives the place after the last.
+// Takes in plain bytes from `from` on by runs, up to `stop` at most; gives the index after the last.
 fn fill_runs(count: usize, held: &mut [u8; BODY], piece: &[u8], from: usize, stop: usize) -> usize
     requires { ⌜ (from ≤ stop) × (stop ≤ length (now piece)) × (count + (stop - from) ≤ bodyMax) × (length (now held) ≡ bodyMax) ⌝ }
     ensures { λ r. ⌜ (r ≤ stop) × Filled count (now (held .entry)) (now (piece .entry)) from r (now (held .exit)) ⌝ }
@@ -262,7 +262,7 @@ fn fill_bytes(count: usize, held: &mut [u8; BODY], piece: &[u8], from: usize, st
     i
 }
 
-// Takes in plain bytes from `from` on while there is room; gives the place after the last.
+// Takes in plain bytes from `from` on while there is room; gives the index after the last.
 fn fill(count: usize, held: &mut [u8; BODY], piece: &[u8], from: usize) -> usize
     requires { ⌜ (count ≤ bodyMax) × (from ≤ length (now piece)) × (length (now held) ≡ bodyMax) ⌝ }
     ensures { λ r. ⌜ Filled count (now (held .entry)) (now (piece .entry)) from r (now (held .exit)) ⌝ }

@@ -58,7 +58,7 @@ fn stuffed_len(s: &[u8]) -> usize
     n as usize
 }
 
-// Stores a byte, stuffed; gives the place after it.
+// Stores a byte, stuffed; gives the index after it.
 fn put(b: u8, lent: &mut [u8], at: usize) -> usize
     requires { ⌜ at + length (stuffed (b ∷ [])) ≤ length (now lent) ⌝ }
     ensures { λ r. ⌜ Stuffs (b ∷ []) at (now (lent .entry)) r (now (lent .exit)) ⌝ }
@@ -77,7 +77,7 @@ fn put(b: u8, lent: &mut [u8], at: usize) -> usize
     at + 1
 }
 
-// Stores bytes, stuffed, from `at` on; gives the place after them.
+// Stores bytes, stuffed, from `at` on; gives the index after them.
 fn put_stuffed(s: &[u8], lent: &mut [u8], at: usize) -> usize
     requires { ⌜ at + length (stuffed (now s)) ≤ length (now lent) ⌝ }
     ensures { λ r. ⌜ Stuffs (now (s .entry)) at (now (lent .entry)) r (now (lent .exit)) ⌝ }

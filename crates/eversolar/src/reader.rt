@@ -149,7 +149,7 @@ fn advance(stage: u8, count: usize, len: usize) -> Move
     Move::Close
 }
 
-// Where a hunt for AA 55 ends: at the place after the 55, or at the end of the piece, in a stage of looking.
+// Where a hunt for AA 55 ends: at the index after the 55, or at the end of the piece, in a stage of looking.
 enum HuntEnd {
     Found(usize),
     End(u8),
@@ -196,7 +196,7 @@ struct Ran {
     end: End,
 }
 
-// Takes in bytes from `from` on, whatever they are: as many as are kept and the piece has. Gives the place after the last.
+// Takes in bytes from `from` on, whatever they are: as many as are kept and the piece has. Gives the index after the last.
 fn fill(
     stage: u8,
     count: usize,

@@ -41,7 +41,7 @@ module _ (d n c : ℕ) (bs lent : List ℕ) where
       (subst (λ (k : ℕ). Writes false (wire M) lent (Done k) (wire M ++ drop (length (wire M)) lent)) count
       (writes-done (wire M) lent (omega (arith, wire-length M)))))
 
-  -- head and data in front of the rest
+  -- lead and data in front of the rest
   abbrev H : List ℕ
   H = lead (length bs) d n c
 

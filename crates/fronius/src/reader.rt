@@ -150,7 +150,7 @@ struct Ran {
     end: End,
 }
 
-// Takes in bytes of the body from `from` on, whatever they are: as many as it still lacks and the piece has. Gives the place after the last.
+// Takes in bytes of the body from `from` on, whatever they are: as many as it still lacks and the piece has. Gives the index after the last.
 fn fill(count: usize, len: usize, held: &mut [u8; BODY], piece: &[u8], from: usize) -> usize
     requires { ⌜ (count ≤ 3 + len) × (len ≤ payloadMax) × (from ≤ length (now piece)) × (length (now held) ≡ bodyMax) ⌝ }
     ensures { λ r. ⌜ Filled count len (now (held .entry)) (now (piece .entry)) from r (now (held .exit)) ⌝ }

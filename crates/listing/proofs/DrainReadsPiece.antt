@@ -1,4 +1,4 @@
--- A packet's line bytes called on until they are used up, of any family: what holds between two calls, and what is so at the end.
+-- A packet's piece called on until it is used up, of any family: what holds between two calls, and what is so at the end.
 -- Assumes nothing.
 use Prim.Native.Nat.{ℕ, _+_, _-_, _*_, _≤_, _<_}
 use mathlib.Core.Path.{_≡_, refl, sym, ap, _∙_, subst}
@@ -30,7 +30,7 @@ use Rattle.listing.specs.Inside.{Put, Drains}
 use Rattle.listing.proofs.LinesInOrder.{lines-append, messages-append, damages-append}
 use Rattle.listing.proofs.LinesFit.{lineFor, perByte, heldMost, Weighs, scan-weighs}
 
--- ---- a line at a place of the lent buffer
+-- ---- a line at an index of the lent buffer
 
 -- a line for which there is room is put
 pub put-line : (long : Bool) (piece lent later : List ℕ) (w : Written) (n : ℕ) → Writes long piece lent w later → long ≡ false → length piece ≤ length lent → n ≡ lengthIn w → Put piece lent n later
@@ -45,7 +45,7 @@ rest l k = take-all (length l - k) (drop k l) (simp length-drop (le-refl _))
 pub rest-length : (l : List ℕ) (k : ℕ) → length (take (length l - k) (drop k l)) ≡ length l - k
 rest-length l k = ap length (rest l k) ∙ length-drop k l
 
--- what is put at the front of it is put at its place
+-- what is put at the front of it is put at its index
 pub into : (l m piece : List ℕ) (at : ℕ) → at + length piece ≤ length l → m ≡ piece ++ drop (length piece) (take (length l - at) (drop at l))
     → putMid at (length l - at) l m ≡ sets l at piece
 into l m piece at h e =

@@ -51,7 +51,7 @@ counts-in : (l : Listing) → l .packets ≤ packetsMax → l .messages ≤ piec
 unfolding inRange
 counts-in l p m d = rw (le-leb (l .packets) packetsMax p, le-leb (l .messages) (pieceMax * l .packets) m, le-leb (l .damages) (pieceMax * l .packets) d)
 
--- a listing that can take a packet of so many line bytes, with so much room
+-- a listing that can take a packet whose piece has so many bytes, with so much room
 pub record CanTake (l : Listing) (piece room : ℕ) : Type 0 where
   pub counts : inRange l ≡ true
   pub packets : l .packets < packetsMax
@@ -99,7 +99,7 @@ same-made l lent later r {m} {n} e x = subst (λ (k : Made). HandsBack l k lent 
 pub nothing : (l : Listing) (m : Made) (lent : List ℕ) (r : Listed) → m .listing ≡ l → m .text ≡ [] → r ≡ listed m → HandsBack l m lent r lent
 nothing l m lent r a b e = (e, rw b, λ s. subst Sound (sym (ap (λ (x : Listed). x .listing) e ∙ a)) s)
 
--- ---- the reader of a line among the ports
+-- ---- the reader of a seat among the ports
 
 -- one in range put there, and all that were in range are
 still-readable : (at other : Seat) (ps : Ports) (s : rowOf at .family .State) → rowOf at .inRange s ≡ true

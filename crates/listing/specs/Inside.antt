@@ -21,7 +21,7 @@ use Rattle.listing.specs.declared.Heard.the-variants.{Packet as Took, En
 abbrev pub Put : (text lent : List ℕ) → (wrote : ℕ) → (later : List ℕ) → Type 0
 Put text lent wrote later = (wrote ≡ length text) × (later ≡ text ++ drop (length text) lent)
 
--- a packet's line bytes handed to a reader: what is handed back of the reader, whether it was out of range, and the counts
+-- a packet's piece handed to a reader: what is handed back of the reader, whether it was out of range, and the counts
 module _ {S M : Type 0} (next : S → ℕ → Moved S (Event M)) (inRange : S → Bool) (show : M → Shown) where
   pub record Drains (s : S) (port : ℕ) (piece lent : List ℕ) (reader : S) (spoilt : Bool) (wrote messages damages : ℕ) (later : List ℕ) : Type 0 where
     pub range : spoilt ≡ not (inRange s)

@@ -44,7 +44,7 @@ packetIn s = record { port = portIn s; piece = take (countIn s) (drop leadLength
 abbrev pub packetsMax : ℕ
 packetsMax = 65536
 
--- ---- the line bytes of a packet go to the reader of its port, called on until they are used up
+-- ---- the piece of a packet goes to the reader of its port, called on until it is used up
 
 pub record Fed : Type 0 where
   pub ports : Ports
@@ -117,7 +117,7 @@ unfoldable pub going : Listing → List ℕ → (ended : Bool) → Made
 going l [] ended = atEnd l ended
 going l (b ∷ bs) ended = cond (eqb (l .packets) packetsMax) (ends l (some (Refusal.number TooManyPackets))) (byPacket l (b ∷ bs) ended)
 
--- a listing that may be: no more packets than are taken, and no more messages or damages than they have line bytes
+-- a listing that may be: no more packets than are taken, and no more messages or damages than their pieces have bytes
 unfoldable pub inRange : Listing → Bool
 inRange l = leb (l .packets) packetsMax && (leb (l .messages) (pieceMax * l .packets) && leb (l .damages) (pieceMax * l .packets))
 

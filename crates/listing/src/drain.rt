@@ -1,4 +1,4 @@
-// A packet's line bytes, handed to the reader of their port until they are used up: a line for each message and each damage.
+// A packet's piece, handed to the reader of its port until it is used up: a line for each message and each damage.
 use crate::shown::comlynx_line;
 use crate::shown::damage_line;
 use crate::shown::eversolar_line;

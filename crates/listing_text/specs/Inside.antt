@@ -35,6 +35,6 @@ messageLength port m = length (decimal port) + widthOf (length (m .from)) + widt
 abbrev pub start : (port : ℕ) → List ℕ
 start port = decimal port ++ (32 ∷ 49 ∷ 32 ∷ [])
 
--- what is put at a place: the place behind it, and the buffer afterwards
+-- what is put at an index: the index behind it, and the buffer afterwards
 abbrev pub Put : List ℕ → (at : ℕ) → (text : List ℕ) → (r : ℕ) → List ℕ → Type 0
 Put lent at text r later = (r ≡ at + length text) × (later ≡ sets lent at text)

@@ -91,7 +91,7 @@ cuts-do-not-matter port ps qs g e =
 
 -- ---- the counts, port by port
 
--- every entry is on a port that has a line
+-- every entry is on a port that has a seat
 abbrev pub OnSeats : List Entry → Type 0
 OnSeats [] = Unit {0}
 OnSeats (e ∷ es) = OnSeat (e .port) × OnSeats es

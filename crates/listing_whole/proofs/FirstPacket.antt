@@ -19,7 +19,7 @@ use Rattle.ports.proofs.EveryRow.{OnSeat, ported}
 use Rattle.uplink.proofs.PacketTests.{both, carried-count}
 use Rattle.uplink.proofs.AcceptedIsWritten.{port-within}
 
--- ---- a head stays as it is, whatever follows
+-- ---- a lead stays as it is, whatever follows
 
 module _ (s rest : List ℕ) (long : leadLength ≤ length s) where
   at : (i : ℕ) → i < leadLength → getD (s ++ rest) i 0 ≡ getD s i 0
@@ -42,7 +42,7 @@ module _ (s rest : List ℕ) (long : leadLength ≤ length s) where
   unfolding carried
   same-carried = rw (same-port, same-version, same-count)
 
--- THE PACKETS AND THE TABLE: a port that a known version carries has a line
+-- THE PACKETS AND THE TABLE: a port that a known version carries has a seat
 pub carried-seat : (port : ℕ) → known (versionOf port) ≡ true → OnSeat port
 carried-seat port e = let w = port-within port e in ported port (w .0) (w .1)
 

@@ -32,7 +32,7 @@ map-append : {A B : Type 0} (f : A → B) (k l : List A) → map f (k ++ l) ≡ 
 map-append f [] l = refl
 map-append f (x ∷ k) l = ap (λ r. f x ∷ r) (map-append f k l)
 
--- ---- on a line
+-- ---- on a seat
 
 module _ (seat : Seat) where
   abbrev F : Family

@@ -23,7 +23,7 @@ use Rattle.listing.specs.Steps.{Fed, fed}
 use Rattle.listing_whole.proofs.MachineFindsRule.{foundIn, brought}
 use Rattle.listing_whole.proofs.EntriesByPacket.{joined-same, joined-other}
 
--- where the packets ps lead the reader of a line
+-- where the packets ps lead the reader of a seat
 abbrev pub led : (seat : Seat) → List Packet → rowOf seat .family .State
 led seat ps = after (rowOf seat .next) (rowOf seat .family .fresh) (joined (rowOf seat .port) ps)
 
@@ -31,7 +31,7 @@ led seat ps = after (rowOf seat .next) (rowOf seat .family .fresh) (joined (rowO
 abbrev pub Stand : List Packet → Ports → Type 0
 Stand ps l = (seat : Seat) → rowOf seat .get l ≡ led seat ps
 
--- the line bytes of each port are bytes
+-- the pieces of each port are bytes
 abbrev pub Bytes : List Packet → Type 0
 Bytes ps = (port : ℕ) → T (areBytes (joined port ps))
 
@@ -39,7 +39,7 @@ pub record Right (ps : List Packet) (p : Packet) (f : Fed) : Type 0 where
   pub brought : f .events ≡ brings ps p
   pub stand : Stand (ps ++ (p ∷ [])) (f .ports)
 
--- ---- a packet on a line
+-- ---- a packet on a seat
 
 module _ (seat : Seat) (ps : List Packet) (bs : List ℕ) (l : Ports) (st : Stand ps l) where
   abbrev port : ℕ

@@ -48,7 +48,7 @@ abbrev pub Makes : Type 0
 Makes = (input text : List ℕ) (l : Listing) → T (areBytes input) → IsFresh l → Prints l input text → titleLine ++ text ≡ listingOf input
 
 -- and it gets on, and ends: more is wanted only where the input has not ended and less than the longest packet is at hand, and changes nothing; a packet taken has
--- at least a line byte, was at hand, and counts
+-- at least a byte in its piece, was at hand, and counts
 abbrev pub GetsOn : Type 0
 GetsOn =
     (l : Listing) (input lent later : List ℕ) (ended : Bool) (r : Listed) → IsStep l input ended lent r later
@@ -79,7 +79,7 @@ abbrev pub onPort : (port : ℕ) → List Entry → List (Event Shown)
 onPort port [] = []
 onPort port (e ∷ es) = cond (eqb (e .port) port) (e .event ∷ onPort port es) (onPort port es)
 
--- FOR EACH PORT, ITS LINES IN ORDER ARE WHAT THE RULE OF ITS FAMILY FINDS in that port's line bytes joined
+-- FOR EACH PORT, ITS LINES IN ORDER ARE WHAT THE RULE OF ITS FAMILY FINDS in that port's pieces joined
 abbrev pub ByPort : Type 0
 ByPort = (port : ℕ) (ps : List Packet) → T (areBytes (joined port ps)) → onPort port (entries [] ps) ≡ found port (joined port ps)
 

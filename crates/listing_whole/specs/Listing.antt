@@ -60,7 +60,7 @@ foundOn (some seat) bs =
 abbrev pub found : (port : ℕ) → List ℕ → List (Event Shown)
 found port bs = foundOn (seatAt port) bs
 
--- the line bytes of a port, joined
+-- the pieces of a port, joined
 abbrev pub joined : (port : ℕ) → List Packet → List ℕ
 joined port [] = []
 joined port (p ∷ ps) = cond (eqb (p .port) port) (p .piece ++ joined port ps) (joined port ps)

@@ -6,7 +6,6 @@ use test_parts::EVERSOLAR;
 use test_parts::FRONIUS;
 use test_parts::byte_at;
 use test_parts::further;
-use test_parts::length_of;
 use test_parts::part;
 use test_parts::size_at;
 use test_parts::word_at;
@@ -104,7 +103,7 @@ fn put(line: &mut [u8], at: usize, record: &[u8]) -> usize {
         part(record, PAYLOAD, PAYLOAD_MAX),
         &mut line[at..],
     );
-    let n = length_of(w);
+    let n = w.length();
     damage(line, at, record);
     further(at, n)
 }

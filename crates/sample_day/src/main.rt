@@ -8,7 +8,6 @@ use test_parts::COMLYNX;
 use test_parts::EVERSOLAR;
 use test_parts::FRONIUS;
 use test_parts::further;
-use test_parts::length_of;
 use test_parts::part;
 
 mod line;
@@ -27,7 +26,7 @@ const PACKET: usize = 247;
 fn send_next(port: u8, round: usize, line: &[u8], from: usize) -> usize {
     let mut packet = [0u8; PACKET];
     let piece = part(line, from, CUTS[round % CUTS.len()]);
-    let n = length_of(uplink::write(port, piece, &mut packet));
+    let n = uplink::write(port, piece, &mut packet).length();
     io::write_all(STDOUT_FILENO, part(&packet, 0, n));
     further(from, piece.len())
 }

@@ -14,6 +14,6 @@ module _ {H : Type 0} (len : H → ℕ) where
   Small most (gives (damage n)) = Unit {0}
   Small most (refuses n) = Unit {0}
 
-  -- the lent buffer afterwards: of the held bytes the payload begins at this place
+  -- the lent buffer afterwards: of the held bytes the payload begins at this index
   abbrev pub given : ℕ → Told H → List ℕ → List ℕ → List ℕ
   given at t held lent = delivered (λ h. take (len h) (drop at held)) t lent

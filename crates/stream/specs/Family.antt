@@ -37,7 +37,7 @@ pub record Call (R : Type 0) : Type 0 where
   pub result : R
   pub later : List ℕ
 
--- what is told, at its place, before what is told later; 0 is no news
+-- what is told, with the bytes used up to then, before what is told later; 0 is no news
 abbrev pub toldBefore : {M : Type 0} → Told M → ℕ → List (Settled (Told M)) → List (Settled (Told M))
 toldBefore done used later = later
 toldBefore (gives e) used later = record { event = gives e; used = used } ∷ later

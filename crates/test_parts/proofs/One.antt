@@ -3,8 +3,7 @@
 use Prim.Native.Nat.{ℕ}
 use mathlib.Core.Path.{_≡_, sym, _∙_}
 use mathlib.Core.List.{List}
-use Rattle.answers.specs.declared.Written.{Written}
-use Rattle.test_parts.specs.Parts.{IsFurther, IsByteAt, IsWordAt, IsPart, IsLowOf, IsHighOf, IsLengthOf}
+use Rattle.test_parts.specs.Parts.{IsFurther, IsByteAt, IsWordAt, IsPart, IsLowOf, IsHighOf}
 
 pub further-one : (at n r s : ℕ) → IsFurther at n r → IsFurther at n s → r ≡ s
 further-one at n r s x y = x ∙ sym y
@@ -26,6 +25,3 @@ low-one n r s x y = x ∙ sym y
 
 pub high-one : (n r s : ℕ) → IsHighOf n r → IsHighOf n s → r ≡ s
 high-one n r s x y = x ∙ sym y
-
-pub length-of-one : (w : Written) (r s : ℕ) → IsLengthOf w r → IsLengthOf w s → r ≡ s
-length-of-one w r s x y = x ∙ sym y

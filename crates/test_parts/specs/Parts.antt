@@ -3,8 +3,6 @@ use Prim.Native.Nat.{ℕ, min, _+_, _-_, _*_, _/_, _%_, _^_}
 use mathlib.Core.Path.{_≡_}
 use mathlib.Core.List.{List}
 use lib.ListN.{getD, take, drop}
-use Rattle.answers.specs.declared.Written.{Written}
-use Rattle.answers.specs.declared.Written.the-variants.{Done, Refused}
 
 -- `further`: the sum, or the greatest index
 abbrev pub IsFurther : ℕ → ℕ → ℕ → Type 0
@@ -28,11 +26,3 @@ IsLowOf n r = r ≡ n % 256
 
 abbrev pub IsHighOf : ℕ → ℕ → Type 0
 IsHighOf n r = r ≡ n / 256 % 256
-
--- `length_of`: the length that a writer tells, 0 with a refusal
-abbrev pub lengthOf : Written → ℕ
-lengthOf (Done length) = length
-lengthOf (Refused why) = 0
-
-abbrev pub IsLengthOf : Written → ℕ → Type 0
-IsLengthOf w r = r ≡ lengthOf w

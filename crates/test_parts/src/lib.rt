@@ -1,9 +1,8 @@
 // What the programs for tests, sample and bench share. Every call takes any index: a byte past the end is 0, and of a part there is what
 // there is, so that no program owes a proof for it.
-use answers::Written;
 use numbers::wide;
 use numbers::word;
-ghost use Rattle.test_parts.specs.Parts.{IsFurther, IsByteAt, IsWordAt, IsPart, IsLowOf, IsHighOf, IsLengthOf};
+ghost use Rattle.test_parts.specs.Parts.{IsFurther, IsByteAt, IsWordAt, IsPart, IsLowOf, IsHighOf};
 
 // The families, by the numbers of their ports.
 pub const COMLYNX: u8 = 1;
@@ -72,14 +71,4 @@ pub fn high(n: usize) -> u8
     ensures { λ r. ⌜ IsHighOf n r ⌝ }
 {
     (n / 256 % 256) as u8
-}
-
-// How many bytes were written.
-pub fn length_of(w: Written) -> usize
-    ensures { λ r. ⌜ IsLengthOf w r ⌝ }
-{
-    match w {
-        Written::Done(n) => n,
-        Written::Refused(_) => 0,
-    }
 }

@@ -7,7 +7,6 @@ use answers::Written;
 use eversolar_requests::ToAll;
 use eversolar_requests::ToOne;
 use test_parts::byte_at;
-use test_parts::length_of;
 
 fn to_all(which: u8) -> ToAll {
     match which {
@@ -49,5 +48,5 @@ pub(crate) fn write(op: u8, s: &[u8], first: &[u8], lent: &mut [u8]) -> Written 
 }
 
 pub(crate) fn written(w: Written) -> [u8; HEAD] {
-    size_told(w.number(), length_of(w))
+    size_told(w.number(), w.length())
 }

@@ -12,7 +12,6 @@ use test_parts::COMLYNX;
 use test_parts::EVERSOLAR;
 use test_parts::FRONIUS;
 use test_parts::byte_at;
-use test_parts::length_of;
 use test_parts::part;
 use test_parts::size_at;
 
@@ -172,12 +171,13 @@ fn try_record(record: &[u8]) {
     let mut again = [0u8; LENT];
     let port = port_of(byte_at(record, DOCUMENT));
     let got = read(port, frame_of(record), &mut lent);
-    let n = length_of(write(
+    let written = write(
         port,
         part(record, TO_READ + FROM, HEADER),
         payload_of(record),
         &mut again,
-    ));
+    );
+    let n = written.length();
     report(record, &got, &lent, part(&again, 0, n));
 }
 

@@ -21,7 +21,7 @@ use Rattle.uplink.proofs.AcceptedIsWritten.{held, never, tested, port-w
 
 -- ---- what is written
 
--- where the writer's answer is 0 it took the line, and the packet stands at the front
+-- where the writer's answer is 0 it took the piece, and the packet stands at the front
 pub record Put (port : ℕ) (piece later : List ℕ) (n : ℕ) : Type 0 where
   pub taken : takes port (length piece) ≡ true
   pub long : n ≡ leadLength + length piece
@@ -31,7 +31,7 @@ length-told : (w : Written) (n : ℕ) → Written.told w ≡ answer 0 (n ∷ [])
 length-told (Done m) n e = let same : m ≡ n = cc in ap some same
 length-told (Refused why) n e = absurd (never 1 why (n ∷ []) e)
 
--- a writer's promise, where the line is taken
+-- a writer's promise, where the piece is taken
 as-writer : (port : ℕ) (piece lent later : List ℕ) (w : Written) → takes port (length piece) ≡ true → IsWritten port piece lent w later
     → Writes false (packet port piece) lent w later
 as-writer port piece lent later w t p = rw (by-writer port piece lent t) at p

@@ -50,7 +50,7 @@ takes-count port count e = counted-within count (both (known (versionOf port)) (
 
 -- ---- what the reader tells, by the tests that lead to it
 
--- a head with the mark and a known version
+-- a lead with the mark and a known version
 pub record Head (s : List ℕ) : Type 0 where
   pub long : leadLength ≤ length s
   pub begins : marked s ≡ true
@@ -96,7 +96,7 @@ module _ (port : ℕ) (piece lent : List ℕ) where
   unfolding written
   not-taken t = (simp t, simp t)
 
-  -- one that takes the line ends as every writer does
+  -- one that takes the piece ends as every writer does
   pub by-writer : takes port (length piece) ≡ true → written port piece lent ≡ writing false (packet port piece) lent
   unfolding written
   by-writer t = simp t
@@ -124,7 +124,7 @@ mid-paste l m src at e =
     let none : drop (length l - at) (drop at l) ≡ [] = drop-of-length-le (drop at l) {i = length l - at} (simp length-drop (le-refl _)) in
     simp (none, append-nil, e, whole, drop-drop, take-length)
 
--- the head stored at the front, and the line copied behind it, are the packet
+-- the lead stored at the front, and the piece copied behind it, are the packet
 pub packet-put : (version port : ℕ) (piece lent k m : List ℕ) → leadLength + length piece ≤ length lent
     → version ≡ versionOf port
     → k ≡ sets lent 0 (lead version port (length piece))

@@ -15,7 +15,7 @@ use Rattle.uplink.specs.Packet.{leadLength, pieceMax, packet, takes, tol
 use Rattle.uplink.specs.declared.Received.{Received}
 
 -- Whatever is written reads back: of the n bytes written, followed by any others, the reader can only tell this port,
--- this line's length and n bytes used; and the line stands behind the head, up to n.
+-- this piece's length and n bytes used; and the piece stands behind the lead, up to n.
 abbrev pub ReadsBack : Type 0
 ReadsBack =
     (port : ℕ) (piece lent later rest : List ℕ) (w : Written) (n : ℕ)
@@ -24,7 +24,7 @@ ReadsBack =
     → ((r : Received) → IsRead (take n later ++ rest) r → told r ≡ answer 0 (port ∷ length piece ∷ n ∷ []))
     × (slice leadLength n (take n later ++ rest) ≡ piece)
 
--- s begins with the packet of a line of so many bytes for this port, one that the writer takes
+-- s begins with the packet of a piece of so many bytes for this port, one that the writer takes
 pub record Begins (s : List ℕ) (port count used : ℕ) : Type 0 where
   pub piece : List ℕ
   pub rest : List ℕ

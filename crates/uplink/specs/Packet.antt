@@ -34,18 +34,18 @@ pieceMax = 240
 unfoldable pub counted : ℕ → Bool
 counted count = leb 1 count && leb count pieceMax
 
--- The seven bytes before the line: mark, version (high byte first), port, count;
+-- The seven bytes of the lead: mark, version (high byte first), port, count;
 abbrev pub leadLength : ℕ
 leadLength = 7
 
 abbrev pub lead : ℕ → ℕ → ℕ → List ℕ
 lead version port count = mark ++ (version / 256 ∷ version % 256 ∷ port ∷ count ∷ [])
 
--- then that many line bytes.
+-- then that many line bytes, the piece.
 abbrev pub packet : ℕ → List ℕ → List ℕ
 packet port piece = lead (versionOf port) port (length piece) ++ piece
 
--- What stands in a head
+-- What stands in a lead
 unfoldable pub marked : List ℕ → Bool
 marked s = eqb (getD s 0 0) (getD mark 0 0) && eqb (getD s 1 0) (getD mark 1 0) && eqb (getD s 2 0) (getD mark 2 0)
 

@@ -1,4 +1,4 @@
-// The uplink packet: the mark `SBR`, the version, the port, the count, and that many line bytes.
+// The uplink packet: the mark `SBR`, the version, the port, the count, and the piece: that many bytes of the port's line.
 use answers::Refusal;
 use answers::Written;
 use numbers::wide;
@@ -12,15 +12,15 @@ ghost use Rattle.uplink.specs.Packet.{versionOf, known, counted, leadLen
 // The packet's mark, compared by `read` and written by `write`.
 const MARK: [u8; 3] = *b"SBR";
 
-// The bytes before the line: mark, version, port and count.
+// The lead: mark, version, port and count.
 pub const LEAD: usize = 7;
 
-// The longest line of one packet.
+// The longest piece of one packet.
 pub const PIECE_MAX: usize = 240;
 
 // What the bytes at the front of a slice are read as.
 pub enum Received {
-    // The line is the `count` bytes behind the head; what follows the `used` bytes belongs to the next packet.
+    // The piece is the `count` bytes behind the lead; what follows the `used` bytes belongs to the next packet.
     Packet { port: u8, count: u8, used: usize },
     Refused(Refusal),
 }
@@ -40,14 +40,14 @@ fn known(version: u16) -> bool
     version == version_of(1)
 }
 
-// Whether a packet may have so many line bytes.
+// Whether a packet's piece may have so many bytes.
 fn counted(count: usize) -> bool
     ensures { λ r. ⌜ r ≡ counted count ⌝ }
 {
     (1 <= count) & (count <= PIECE_MAX)
 }
 
-// Whether the mark stands at the front of a whole head.
+// Whether the mark stands at the front of a whole lead.
 fn marked(s: &[u8]) -> bool
     requires { ⌜ leadLength ≤ length (now s) ⌝ }
     ensures { λ r. ⌜ r ≡ marked (now (s .entry)) ⌝ }
@@ -55,8 +55,8 @@ fn marked(s: &[u8]) -> bool
     (s[0] == MARK[0]) & (s[1] == MARK[1]) & (s[2] == MARK[2])
 }
 
-// Reads the packet at the front of `s`, and copies nothing. That line bytes are missing is the last test, so that a wrong
-// packet is refused as soon as its head is there.
+// Reads the packet at the front of `s`, and copies nothing. That bytes of the piece are missing is the last test, so that a wrong
+// packet is refused as soon as its lead is there.
 pub fn read(s: &[u8]) -> Received
     ensures { λ r. ⌜ IsRead (now (s .entry)) r ⌝ }
 {
@@ -83,7 +83,7 @@ pub fn read(s: &[u8]) -> Received
     Received::Packet { port, count, used }
 }
 
-// Stores a packet's head at the front of `lent`.
+// Stores a packet's lead at the front of `lent`.
 fn put_lead(version: u16, port: u8, count: u8, lent: &mut [u8])
     requires { ⌜ leadLength ≤ length (now lent) ⌝ }
     ensures { λ _. ⌜ now (lent .exit) ≡ sets (now (lent .entry)) 0 (lead version port count) ⌝ }

@@ -12,7 +12,7 @@ use borrow.Author.Needs.{needs}
 use Rattle.comlynx.proofs.writer.write.Statement.{statement}
 use Rattle.comlynx.proofs.writer.write.Tie as tie
 
--- what the call was handed, from where the length is known; the head and the two checksum bytes, and what they are
+-- what the call was handed, from where the length is known; the lead and the two checksum bytes, and what they are
 abbrev start : tie.After-stuffed-len3 → tie.Start
 start c = c .before .before .before .before .before .before .before .before .before .before .before .before .before
 

@@ -25,7 +25,7 @@ msg c = let a = c .args in record {
   payload = a .payload .now;
 }
 
--- at the copy: the arguments, what the head left of the lent buffer, and what the data made of that
+-- at the copy: the arguments, what the lead left of the lent buffer, and what the data made of that
 abbrev tested : tie.After-copy → tie.Else2
 tested c = c .before .before .before .before .before .before
 

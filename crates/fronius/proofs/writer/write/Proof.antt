@@ -1,4 +1,4 @@
--- `writer::write`: head, data and checksum, one behind the other, are the frame.
+-- `writer::write`: lead, data and checksum, one behind the other, are the frame.
 -- Assumes nothing.
 use mathlib.Core.List.{List, _∷_}
 use lib.ListN.{length-set}
@@ -16,7 +16,7 @@ use borrow.Author.Needs.{needs}
 use Rattle.fronius.proofs.writer.write.Statement.{statement}
 use Rattle.fronius.proofs.writer.write.Tie as tie
 
--- at the copy: the arguments, what the head left of the lent buffer, and what the data made of that
+-- at the copy: the arguments, what the lead left of the lent buffer, and what the data made of that
 abbrev tested : tie.After-copy → tie.Else2
 tested c = c .before .before .before .before .before .before
 
