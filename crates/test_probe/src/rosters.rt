@@ -14,7 +14,7 @@ use roster::ROSTER_SIZE;
 use roster::Removed;
 use roster::SERIAL_SIZE;
 use test_parts::byte_at;
-use test_parts::further as on;
+use test_parts::further;
 use test_parts::part;
 
 // The answer that a list of another number of places has.
@@ -83,8 +83,8 @@ fn put_place(roster: &mut [u8], at: usize, place: Place) -> usize {
     let mark = [place.mark];
     let serial = place.serial;
     put(roster, at, &mark);
-    put(roster, on(at, 1), &serial);
-    on(at, PLACE_SIZE)
+    put(roster, further(at, 1), &serial);
+    further(at, PLACE_SIZE)
 }
 
 fn put_places(roster: &mut [u8], places: [Place; PLACES]) {
