@@ -1,18 +1,12 @@
 -- The text of each line of a listing, byte by byte, and what the calls that write them promise.
 use Prim.Native.Nat.{ℕ, zero, suc, _+_, _/_, _%_}
-use Prim.Native.Char.{code}
-use Prim.Native.String.{String, [] as []ˢ, _∷_ as _∷ˢ_}
 use mathlib.Core.Bool.{Bool, false, cond, _||_}
 use mathlib.Core.List.{List, [], _∷_, _++_}
 use lib.ListN.{length}
 use lib.Dec.{ltb}
+use Rattle.numbers.specs.Texts.{text}
 use Rattle.answers.specs.Written.{Writes}
 use Rattle.answers.specs.declared.Written.{Written}
-
--- a text as its bytes
-abbrev pub text : String → List ℕ
-text []ˢ = []
-text (c ∷ˢ s) = code c ∷ text s
 
 -- ---- fields
 
@@ -27,7 +21,7 @@ hex (b ∷ bs) = hexDigit (b / 16) ∷ hexDigit (b % 16) ∷ hex bs
 
 -- no data prints `-`, and so does whatever else is empty
 abbrev pub field : List ℕ → List ℕ
-field [] = 45 ∷ []
+field [] = text "-"
 field (b ∷ bs) = hex (b ∷ bs)
 
 -- In decimal, with no zero in front: the last digit, and before it those of the number's tenth, if there are any.

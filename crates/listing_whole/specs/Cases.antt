@@ -1,7 +1,7 @@
 -- Document 01's own listings: input and whole output.
 use mathlib.Core.Path.{_≡_}
 use mathlib.Core.List.{[], _∷_, _++_}
-use Rattle.listing_text.specs.Lines.{text}
+use Rattle.numbers.specs.Texts.{text}
 use Rattle.listing_whole.specs.Listing.{listingOf}
 
 -- Case L1: one packet, one ComLynx ping

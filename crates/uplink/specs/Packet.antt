@@ -5,6 +5,7 @@ use mathlib.Core.List.{List, [], _∷_, _++_}
 use mathlib.Core.Bool.{Bool, false, cond, _&&_}
 use lib.ListN.{length, getD}
 use lib.Dec.{leb, eqb}
+use Rattle.numbers.specs.Texts.{text}
 use Rattle.answers.specs.Answer.{Answer, answer, need}
 use Rattle.answers.specs.Refusal.{refused}
 use Rattle.answers.specs.Written as Written
@@ -16,7 +17,7 @@ use Rattle.uplink.specs.declared.Received.the-variants.{Packet, Refused}
 
 -- Mark `SBR`,
 abbrev pub mark : List ℕ
-mark = 83 ∷ 66 ∷ 82 ∷ []
+mark = text "SBR"
 
 -- version 00 01 for the ports 1 to 3: which version carries which port is said here alone. 0 is no version.
 -- The table of ports stands above this crate; that each port which a version carries has a row there is shown in `listing_whole`.
