@@ -1,4 +1,4 @@
--- `writer::put_head`: seven stores.
+-- `writer::put_lead`: seven stores.
 -- Assumes nothing.
 use native.Mathlib.Omega.{arith}
 use lib.ListN.{length-set}
