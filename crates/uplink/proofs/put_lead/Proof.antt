@@ -1,4 +1,4 @@
--- `put_head` meets its promise: seven stores are the seven bytes set. Assumes nothing.
+-- `put_lead` meets its promise: seven stores are the seven bytes set. Assumes nothing.
 use native.Mathlib.Omega.{arith}
 use lib.ListN.{length-set}
 use borrow.Author.Needs.{needs}
