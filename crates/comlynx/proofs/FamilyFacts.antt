@@ -18,7 +18,7 @@ use Rattle.comlynx.proofs.MachineFollowsRule.{At, at-fresh, follows}
 use Rattle.comlynx.proofs.WrittenIsRead.{reads, wire-bytes}
 
 -- header and data make up the message
-joins : (m : Message) (rest : List ℕ) → join (header m) (m .payload ++ rest) ≡ m
+pub joins : (m : Message) (rest : List ℕ) → join (header m) (m .payload ++ rest) ≡ m
 joins m rest = ap {B = Message} (λ (l : List ℕ). record { source = m .source; destination = m .destination; kind = m .kind; payload = l }) (take-append-seam (m .payload) rest)
 
 pub facts : Facts comlynx

@@ -90,7 +90,7 @@ wire-bytes m t =
     (word-bytes sum (mod-lt (total (earlier m)) (omega arith)))
 
 -- header and data make up the message
-joins : (m : Message) (rest : List ℕ) → join (header m) (m .payload ++ rest) ≡ m
+pub joins : (m : Message) (rest : List ℕ) → join (header m) (m .payload ++ rest) ≡ m
 joins m rest =
     ap {B = Message} (λ (l : List ℕ). record { sourceFirst = m .sourceFirst; sourceSecond = m .sourceSecond; destinationFirst = m .destinationFirst; destinationSecond = m .destinationSecond; control = m .control; function = m .function; payload = l }) (take-append-seam (m .payload) rest)
 

@@ -64,7 +64,7 @@ wire-bytes m t =
     (bytes-cons mark (n ∷ rest) (omega arith) (bytes-cons n rest (omega arith) (bytes-append (body m) (checksum (n ∷ body m) ∷ []) parts sum))))
 
 -- header and data make up the message
-joins : (m : Message) (rest : List ℕ) → join (header m) (m .payload ++ rest) ≡ m
+pub joins : (m : Message) (rest : List ℕ) → join (header m) (m .payload ++ rest) ≡ m
 joins m rest = ap {B = Message} (λ (l : List ℕ). record { device = m .device; number = m .number; command = m .command; payload = l }) (take-append-seam (m .payload) rest)
 
 pub facts : Facts fronius
