@@ -71,6 +71,12 @@ again : (c : tie.After-advance Inv-loop μ-loop) (m : Move) (t : Reader) → c .
     → scanFrom next t (P c) (I c + 1) ≡ Whole c
 again c m t e f = sym (from-goes next (St c) t (P c) (I c) (c .before .before .before .loop-test .taken) (does c m e ∙ f)) ∙ at c .loop .inv .3
 
+-- a byte is kept, and a run of bytes behind it: the call goes on behind the run
+behind : (c : tie.After-advance Inv-loop μ-loop) (t : Reader) (later : List ℕ) (n j : ℕ) → c .advance .result ≡ Keep → moved Keep (St c) (getD (P c) (I c) 0) ≡ record { state = t; event = none }
+    → scanFrom next t (P c) (I c + 1) ≡ scanFrom next (holding (at c .loop .stage) n (at c .loop .len) later) (P c) j
+    → scanFrom next (holding (at c .loop .stage) n (at c .loop .len) later) (P c) j ≡ Whole c
+behind c t later n j e f g = sym g ∙ again c Keep t e f
+
 tells : (c : tie.After-advance Inv-loop μ-loop) (m : Move) (x : Event Message) (t : Reader) → c .advance .result ≡ m → moved m (St c) (getD (P c) (I c) 0) ≡ record { state = t; event = some x }
     → Whole c ≡ record { state = t; event = some x; used = I c + 1 }
 tells c m x t e f = sym (at c .loop .inv .3) ∙ from-tells next (St c) t x (P c) (I c) (c .before .before .before .loop-test .taken) (does c m e ∙ f)
@@ -161,7 +167,7 @@ loop-again-3 c =
       f .within,
       keeps-range (l .stage) (l .count) (l .len) n (k .before .before .if1 .left) (l .inv .1) (omega arith) (f .room),
       f .sized ∙ simp length-set (l .inv .2),
-      sym (f .goes) ∙ again k Keep _ (c .before .before .enum-told .given .1) refl,
+      behind k _ _ n _ (c .before .before .enum-told .given .1) refl (f .goes),
     )
 
 enum-told-2 : tie.Need-enum-told-2 Inv-loop μ-loop

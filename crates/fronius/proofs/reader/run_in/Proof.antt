@@ -8,7 +8,7 @@ use Rattle.stream.specs.Event.{Event}
 use Rattle.stream.specs.Pieces.{Called, scan, scanFrom}
 use Rattle.stream.proofs.LoopScans.{from-start, from-goes, from-tells, from-end}
 use Rattle.fronius.specs.Wire.{Message}
-use Rattle.fronius.specs.Machine.{moved, next}
+use Rattle.fronius.specs.Machine.{filling, moved, next}
 use Rattle.fronius.specs.declared.reader.Reader.{Reader}
 use Rattle.fronius.specs.declared.reader.Move.{Move}
 use Rattle.fronius.specs.declared.reader.Move.the-variants.{Count, Open, Keep, Close, Bad}
@@ -59,6 +59,17 @@ does c m e = ap (λ (x : Move). moved x (St c) (getD (P c) (I c) 0)) (sym (c .ad
 again : (c : tie.After-advance Inv-loop μ-loop) (m : Move) (t : Reader) → c .advance .result ≡ m → moved m (St c) (getD (P c) (I c) 0) ≡ record { state = t; event = none }
     → scanFrom next t (P c) (I c + 1) ≡ Whole c
 again c m t e f = sym (from-goes next (St c) t (P c) (I c) (c .before .before .loop-test .taken) (does c m e ∙ f)) ∙ at c .loop .inv .3
+
+-- a byte is kept in the body, and a run of bytes behind it: the call goes on behind the run
+behind : (c : tie.After-advance Inv-loop μ-loop) (held later : List ℕ) (first n j : ℕ) → c .advance .result ≡ Keep → at c .loop .stage ≡ 1
+    → moved Keep (St c) (getD (P c) (I c) 0) ≡ record { state = record { held = held; stage = at c .loop .stage; count = first; len = at c .loop .len }; event = none }
+    → scanFrom next (filling first (at c .loop .len) held) (P c) (I c + 1) ≡ scanFrom next (filling n (at c .loop .len) later) (P c) j
+    → scanFrom next (record { held = later; stage = at c .loop .stage; count = n; len = at c .loop .len }) (P c) j ≡ Whole c
+behind c held later first n j e s f g =
+    ap (λ (x : ℕ). scanFrom next (record { held = later; stage = x; count = n; len = at c .loop .len }) (P c) j) s
+    ∙ sym g
+    ∙ ap (λ (x : ℕ). scanFrom next (record { held = held; stage = x; count = first; len = at c .loop .len }) (P c) (I c + 1)) (sym s)
+    ∙ again c Keep _ e f
 
 tells : (c : tie.After-advance Inv-loop μ-loop) (m : Move) (x : Event Message) (t : Reader) → c .advance .result ≡ m → moved m (St c) (getD (P c) (I c) 0) ≡ record { state = t; event = some x }
     → Whole c ≡ record { state = t; event = some x; used = I c + 1 }
@@ -143,16 +154,11 @@ loop-again-3 c =
     let h = asks k Keep e in
     let l = at k .loop in
     let f = c .fill .ensures in
-    let later = c .fill .last .1 .1 .0 in
-    let j = c .fill .result in
-    let n = l .count + 1 + (j - (l .i + 1)) in (
+    let later = c .fill .last .1 .1 .0 in (
       f .within,
       body (h .0) (h .1) (f .room),
       f .sized ∙ simp length-set (l .inv .2),
-      ap (λ (s : ℕ). scanFrom next (record { held = later; stage = s; count = n; len = l .len }) (P k) j) (h .0)
-          ∙ sym (f .goes)
-          ∙ ap (λ (s : ℕ). scanFrom next (record { held = set (l .held) (l .count) (getD (P k) (I k) 0); stage = s; count = l .count + 1; len = l .len }) (P k) (l .i + 1)) (sym (h .0))
-          ∙ again k Keep _ e refl,
+      behind k _ later _ _ _ e (h .0) refl (f .goes),
     )
 
 enum-told-2 : tie.Need-enum-told-2 Inv-loop μ-loop
