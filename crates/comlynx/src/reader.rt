@@ -22,7 +22,7 @@ ghost use Rattle.comlynx.specs.Wire.{bodyMax};
 ghost use Rattle.comlynx.specs.Reader.{IsFresh, IsStep};
 ghost use Rattle.comlynx.specs.Inside.{runLength, AllPlain, Filled, Runs, due, Judges, Small, given};
 
-// The limits, named here because the reader's own constants cannot size its own array.
+// The limits, named here because the reader's own constants cannot size its own array. FF 03, source, destination, size and type come before the data.
 const HEADER: usize = 8;
 
 const PAYLOAD: usize = 255;
@@ -77,7 +77,7 @@ const ESCAPED: u8 = 2;
 const BROKEN: u8 = 3;
 
 // The count of a stretch that has more bytes than a body may have.
-const TOO_MANY: usize = BODY + 1;
+const TOO_MANY: usize = Reader::BODY + 1;
 
 // The two bytes that mean something, and what follows the escape where they are meant themselves.
 pub(crate) const FLAG: u8 = 0x7e;
@@ -130,7 +130,7 @@ enum Move {
 fn keep(count: usize, v: u8) -> Move
     ensures { λ r. ⌜ r ≡ keepOf count v ⌝ }
 {
-    if count < BODY {
+    if count < Reader::BODY {
         Move::Keep(v)
     } else {
         Move::Over
@@ -267,7 +267,7 @@ fn fill(count: usize, held: &mut [u8; BODY], piece: &[u8], from: usize) -> usize
     requires { ⌜ (count ≤ bodyMax) × (from ≤ length (now piece)) × (length (now held) ≡ bodyMax) ⌝ }
     ensures { λ r. ⌜ Filled count (now (held .entry)) (now (piece .entry)) from r (now (held .exit)) ⌝ }
 {
-    let stop = from + least(piece.len() - from, BODY - count);
+    let stop = from + least(piece.len() - from, Reader::BODY - count);
     let i = fill_runs(count, held, piece, from, stop);
     let at = count + (i - from);
     fill_bytes(at, held, piece, i, stop)
@@ -343,7 +343,7 @@ fn run_in(stage: u8, count: usize, held: &mut [u8; BODY], piece: &[u8]) -> Ran
 fn sized(count: usize) -> bool
     ensures { λ r. ⌜ r ≡ sized count ⌝ }
 {
-    (HEADER + SUM <= count) & (count <= BODY)
+    (Reader::HEADER + SUM <= count) & (count <= Reader::BODY)
 }
 
 // Whether what is held begins FF 03.
@@ -380,7 +380,7 @@ fn judge_frame(count: usize, low: u8, high: u8, held: &[u8]) -> Answer
     if !begins(held) {
         return Answer::Damaged(Damage::WrongStart);
     }
-    let len = count - HEADER - SUM;
+    let len = count - Reader::HEADER - SUM;
     if wide(held[6]) != len {
         return Answer::Damaged(Damage::WrongSize);
     }
@@ -406,8 +406,8 @@ fn deliver(answer: Answer, held: &[u8], lent: &mut [u8])
     match answer {
         Answer::Message(h) => {
             let n = h.len;
-            let end = HEADER + n;
-            bytes::copy(&held[HEADER..end], lent);
+            let end = Reader::HEADER + n;
+            bytes::copy(&held[Reader::HEADER..end], lent);
         }
         Answer::Done => {}
         Answer::Damaged(_) => {}
@@ -416,13 +416,13 @@ fn deliver(answer: Answer, held: &[u8], lent: &mut [u8])
 }
 
 impl Reader {
-    // FF 03, source, destination, size, type
+    // the bytes before a message's data, start marks included
     pub const HEADER: usize = HEADER;
-    // the data that a message has at most
+    // the data bytes that a message has at most
     pub const PAYLOAD: usize = PAYLOAD;
-    // both with the checksum: what a reader holds
+    // the bytes that a message has at most on the wire, with header, data and checksum, but without flags and stuffing
     pub const BODY: usize = BODY;
-    // what a host lends at least, whatever the family
+    // the bytes that a host lends at least, whatever the family
     pub const LENT: usize = 255;
 
     // The reader before the first byte.

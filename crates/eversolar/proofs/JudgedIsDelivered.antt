@@ -16,7 +16,7 @@ use Rattle.stream.proofs.HeldIsDelivered.{Delivers, delivers-held, delivers-tol
 use Rattle.eversolar_words.specs.Words.{word}
 use Rattle.eversolar.specs.Wire.{Message, payloadMax, earlierOf, checksum, messageOf}
 use Rattle.eversolar.specs.Rules.{judged}
-use Rattle.eversolar.specs.Machine.{bodyMax}
+use Rattle.eversolar.specs.Machine.{heldMax}
 use Rattle.eversolar.specs.Reader.{told, header}
 use Rattle.eversolar.specs.Inside.{judgedFrame, eventOf, Fits, JudgedAs, Small, given}
 use Rattle.eversolar.specs.declared.reader.Header.{Header}
@@ -70,7 +70,7 @@ module _ (len : ℕ) (held : List ℕ) (room : 7 + len ≤ length held) where
 abbrev DeliversTo : List ℕ → List ℕ → Told Message → Type 0
 DeliversTo held lent t = Delivers header (λ m. m .payload) (λ h. h .len) payloadMax 7 held lent (retold header t) t
 
-end-delivers : (end : End) (held lent : List ℕ) → Fits end → length held ≡ bodyMax → DeliversTo held lent (outcome (eventOf end held))
+end-delivers : (end : End) (held lent : List ℕ) → Fits end → length held ≡ heldMax → DeliversTo held lent (outcome (eventOf end held))
 unfolding judged
 end-delivers UsedUp held lent f l = (tt, refl)
 end-delivers (Closed len last) held lent f l = go (eqb (cameSum len last held) (rightSum len held))
@@ -81,6 +81,6 @@ end-delivers (Closed len last) held lent f l = go (eqb (cameSum len last held) (
         delivers-held header (λ m. m .payload) (λ h. h .len) payloadMax 7 held lent (heldMessage len held) (omega (arith, n)) (ap (λ (k : ℕ). take k (drop 7 held)) n)
     go false = (tt, refl)
 
-pub delivers : (end : End) (held lent : List ℕ) (a : Answer) → Fits end → length held ≡ bodyMax → JudgedAs (eventOf end held) a
+pub delivers : (end : End) (held lent : List ℕ) (a : Answer) → Fits end → length held ≡ heldMax → JudgedAs (eventOf end held) a
     → Small a × (given a held lent ≡ delivered (λ (m : Message). m .payload) (outcome (eventOf end held)) lent)
 delivers end held lent a f l e = delivers-told header (λ m. m .payload) (λ h. h .len) payloadMax 7 held lent (told a) (outcome (eventOf end held)) e (end-delivers end held lent f l)

@@ -25,7 +25,7 @@ use Rattle.stream.proofs.FollowsByBytes.{Finds, finds-end, finds-goes, finds-ca
 use Rattle.eversolar_words.specs.Words.{word}
 use Rattle.eversolar.specs.Wire.{Message, payloadMax, firstMark, secondMark}
 use Rattle.eversolar.specs.Rules.{frame, sought, judged}
-use Rattle.eversolar.specs.Machine.{looking, holding, bodyMax, lookedOf, most, on, tells, next}
+use Rattle.eversolar.specs.Machine.{looking, holding, heldMax, lookedOf, most, on, tells, next}
 use Rattle.eversolar.specs.declared.reader.Reader.{Reader}
 use Rattle.eversolar.proofs.StageRanges.{most-lead, most-body}
 use Rattle.eversolar.proofs.MachineMoves.{look-on, keep-more, size-comes, body-ends}
@@ -33,10 +33,10 @@ use Rattle.eversolar.proofs.MachineMoves.{look-on, keep-more, size-come
 -- a state in which no AA is seen: here reading begins, and goes on after an event
 pub record Rests (s : Reader) : Type 0 where
   pub held : List ℕ
-  pub full : length held ≡ bodyMax
+  pub full : length held ≡ heldMax
   pub is : s ≡ looking 0 held
 
-rests : (h : List ℕ) → length h ≡ bodyMax → Rests (looking 0 h)
+rests : (h : List ℕ) → length h ≡ heldMax → Rests (looking 0 h)
 rests h f = record { held = h; full = f; is = refl }
 
 -- ---- bytes that are kept
@@ -63,7 +63,7 @@ kept h six w n s f =
 
 -- ---- a frame: w are its data and the first byte of its checksum, y is the second, and others come after them
 
-module _ (h six w : List ℕ) (n : ℕ) (s : length six ≡ 6) (e : length w ≡ n + 1) (small : n ≤ payloadMax) (f : length h ≡ bodyMax) where
+module _ (h six w : List ℕ) (n : ℕ) (s : length six ≡ 6) (e : length w ≡ n + 1) (small : n ≤ payloadMax) (f : length h ≡ heldMax) where
   abbrev all : List ℕ
   all = six ++ (n ∷ w)
 
@@ -129,7 +129,7 @@ parts n bs lt e =
     ∙ sym (append-assoc (take (8 + n) bs) (getD bs (8 + n) 0 ∷ []) (drop (suc (8 + n)) bs))
     ∙ ap (λ (l : List ℕ). (l ++ (getD bs (8 + n) 0 ∷ [])) ++ drop (suc (8 + n)) bs) first
 
-framed : (at : ℕ) (h bs : List ℕ) → getD bs 6 0 ≤ payloadMax → length h ≡ bodyMax → Finds next Rests at (frame at bs) (holding 2 0 0 h) bs
+framed : (at : ℕ) (h bs : List ℕ) → getD bs 6 0 ≤ payloadMax → length h ≡ heldMax → Finds next Rests at (frame at bs) (holding 2 0 0 h) bs
 unfolding frame
 framed at h bs small f = go (ltb (length bs) (9 + getD bs 6 0)) refl
   where
@@ -191,7 +191,7 @@ Sought at h bs = Finds next Rests at (sought at bs) (looking 0 h) bs × Finds ne
 found-at : {f : Option (Settled (Event Message))} {s : Reader} {bs : List ℕ} {m n : ℕ} → m ≡ n → Finds next Rests m f s bs → Finds next Rests n f s bs
 found-at {f} {s} {bs} e r = subst (λ (k : ℕ). Finds next Rests k f s bs) e r
 
-sought-found : (h : List ℕ) → length h ≡ bodyMax → (bs : List ℕ) → T (areBytes bs) → (at : ℕ) → Sought at h bs
+sought-found : (h : List ℕ) → length h ≡ heldMax → (bs : List ℕ) → T (areBytes bs) → (at : ℕ) → Sought at h bs
 unfolding sought
 sought-found h f [] g at = (finds-end next Rests at (looking 0 h), finds-end next Rests (at + 1) (looking 1 h))
 sought-found h f (b ∷ bs) g at = go (eqb b firstMark) (eqb b secondMark) refl refl (λ k. sought-found h f bs (bytes-tail b bs g) k)
@@ -217,5 +217,5 @@ sought-found h f (b ∷ bs) g at = go (eqb b firstMark) (eqb b secondMark) refl 
 pub rule-found : (s : Reader) → Rests s → (bs : List ℕ) → T (areBytes bs) → Finds next Rests 0 (sought 0 bs) s bs
 rule-found s r bs g = subst (λ (t : Reader). Finds next Rests 0 (sought 0 bs) t bs) (sym (r .is)) (sought-found (r .held) (r .full) bs g 0 .0)
 
-pub fresh-rests : Rests (looking 0 (replicate bodyMax 0))
-fresh-rests = rests (replicate bodyMax 0) (length-replicate {A = ℕ} bodyMax 0)
+pub fresh-rests : Rests (looking 0 (replicate heldMax 0))
+fresh-rests = rests (replicate heldMax 0) (length-replicate {A = ℕ} heldMax 0)

@@ -9,7 +9,7 @@ use native.Mathlib.Omega.{arith}
 use Rattle.numbers.proofs.Alike.{zero-is-one}
 use Rattle.eversolar.specs.Wire.{payloadMax}
 use Rattle.eversolar.specs.Machine as Machine
-use Rattle.eversolar.specs.Machine.{bodyMax, most, advanceOf}
+use Rattle.eversolar.specs.Machine.{heldMax, most, advanceOf}
 use Rattle.eversolar.specs.declared.reader.Move.{Move}
 use Rattle.eversolar.specs.declared.reader.Move.the-variants.{Keep, Size, Close}
 
@@ -64,7 +64,7 @@ pub most-body : (len : ℕ) → most 3 len ≡ 8 + len
 unfolding most
 most-body len = refl
 
-pub most-small : (stage count len : ℕ) → 2 ≤ stage → Range stage count len → most stage len ≤ bodyMax
+pub most-small : (stage count len : ℕ) → 2 ≤ stage → Range stage count len → most stage len ≤ heldMax
 most-small stage count len s (look p q r) = absurd (omega arith)
 most-small stage count len s (lead p q r) = let limit = ap (λ (k : ℕ). most k len) p ∙ most-lead len in omega arith
 most-small stage count len s (body p q r t) = let limit = ap (λ (k : ℕ). most k len) p ∙ most-body len in omega arith
@@ -77,7 +77,7 @@ keeps-range stage count len n s (lead p q r) le room = lead p (rw p at room) r
 keeps-range stage count len n s (body p q r t) le room = body p q (omega arith) (rw p at room)
 
 abbrev pub Asked : ℕ → ℕ → ℕ → Move → Type 0
-Asked stage count len Keep = (count < most stage len) × (count < bodyMax)
+Asked stage count len Keep = (count < most stage len) × (count < heldMax)
 Asked stage count len Size = (stage ≡ 2) × (count ≡ 6) × (len ≡ 0)
 Asked stage count len Close = (stage ≡ 3) × (count ≡ 8 + len)
 

@@ -33,11 +33,12 @@ module _ (m : Message) (lent : List ℕ) where
   pub no-room : n ≤ payloadMax → length lent < 9 + n + 2 → WritesMessage m lent (Refused NoRoom) lent
   no-room h r = rw (le-ltb payloadMax n h) (writes-no-room (wire m) lent (omega (arith, wire-length m)))
 
-  pub done : (later : List ℕ) → n ≤ payloadMax → 9 + n + 2 ≤ length lent → later ≡ wire m ++ drop (length (wire m)) lent → WritesMessage m lent (Done (9 + n + 2)) later
-  done later h r e =
+  pub done : (count : ℕ) (later : List ℕ) → n ≤ payloadMax → count ≡ 9 + n + 2 → 9 + n + 2 ≤ length lent → later ≡ wire m ++ drop (length (wire m)) lent
+      → WritesMessage m lent (Done count) later
+  done count later h is r e =
       rw (le-ltb payloadMax n h)
-      (subst (λ (l : List ℕ). Writes false (wire m) lent (Done (9 + n + 2)) l) (sym e)
-      (subst (λ (k : ℕ). Writes false (wire m) lent (Done k) (wire m ++ drop (length (wire m)) lent)) (wire-length m)
+      (subst (λ (l : List ℕ). Writes false (wire m) lent (Done count) l) (sym e)
+      (subst (λ (k : ℕ). Writes false (wire m) lent (Done k) (wire m ++ drop (length (wire m)) lent)) (wire-length m ∙ sym is)
       (writes-done (wire m) lent (omega (arith, wire-length m)))))
 
   -- all before the data, and the data, in front of the rest

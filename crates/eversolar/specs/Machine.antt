@@ -24,11 +24,11 @@ abbrev pub holding : ℕ → ℕ → ℕ → List ℕ → Reader
 holding stage count len held = record { held = held; stage = stage; count = count; len = len }
 
 -- six bytes, N, the data and the checksum's first byte: what a reader holds
-abbrev pub bodyMax : ℕ
-bodyMax = 8 + payloadMax
+abbrev pub heldMax : ℕ
+heldMax = 8 + payloadMax
 
 abbrev pub fresh : Reader
-fresh = looking 0 (replicate bodyMax 0)
+fresh = looking 0 (replicate heldMax 0)
 
 -- the range of each stage; a field that the stage does not use is 0
 unfoldable pub inRange : ℕ → ℕ → ℕ → Bool

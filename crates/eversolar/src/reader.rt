@@ -17,7 +17,7 @@ ghost use lib.ListN.{length, take, drop};
 ghost use Rattle.stream.specs.Call.{lentLeast};
 ghost use Rattle.eversolar.specs.Wire.{checksum, payloadMax, earlierOf};
 ghost use Rattle.numbers.specs.Lists.{total};
-ghost use Rattle.eversolar.specs.Machine.{advanceOf, bodyMax, inRange, most};
+ghost use Rattle.eversolar.specs.Machine.{advanceOf, heldMax, inRange, most};
 ghost use Rattle.eversolar.specs.Reader.{IsFresh, IsStep};
 ghost use Rattle.eversolar.specs.Inside.{Hunted, Filled, Fits, Runs, eventOf, judgedFrame, JudgedAs, Small, given};
 
@@ -26,21 +26,32 @@ pub(crate) const FIRST_MARK: u8 = 0xAA;
 
 pub(crate) const SECOND_MARK: u8 = 0x55;
 
-// The limits, named here because the reader's own constants cannot size its own array. The length stands after source, destination, control and
-// function, and ends the header.
-const LENGTH_AT: usize = 6;
-
-const HEADER: usize = LENGTH_AT + 1;
+// The limits, named here because the reader's own constants cannot size its own array. AA 55, source, destination, control, function and length come
+// before the data.
+const HEADER: usize = 9;
 
 const PAYLOAD: usize = 255;
 
-// What a reader holds at most: of the checksum the first byte is held, the second ends the frame.
-const BODY: usize = HEADER + PAYLOAD + 1;
+// The checksum's two bytes.
+const SUM: usize = 2;
+
+const BODY: usize = HEADER + PAYLOAD + SUM;
+
+// AA 55: how many bytes at the front of a frame are not held.
+pub(crate) const MARKS: usize = 2;
+
+// What a reader holds at most: all but AA 55 and the checksum's second byte, which ends the frame.
+const HELD: usize = BODY - MARKS - 1;
+
+// Where the data begin among the held bytes, right after the length.
+const PAYLOAD_AT: usize = HEADER - MARKS;
+
+const LENGTH_AT: usize = PAYLOAD_AT - 1;
 
 // What the bytes read so far have led to. A field that the stage does not use is 0; what `held` has beyond `count` is left over and means nothing.
 pub struct Reader {
     // the bytes since AA 55, as far as they have come
-    pub held: [u8; BODY],
+    pub held: [u8; HELD],
     // LOOKING, MARK_SEEN, IN_LEAD or IN_BODY
     pub stage: u8,
     // in the lead and in the body the bytes held
@@ -107,21 +118,21 @@ fn in_range(stage: u8, count: usize, len: usize) -> bool
     if PAYLOAD < len {
         return false;
     }
-    if count < HEADER {
+    if count < PAYLOAD_AT {
         return false;
     }
-    count <= HEADER + 1 + len
+    count <= PAYLOAD_AT + 1 + len
 }
 
 // How many bytes since AA 55 are kept before the one that tells the length, or the last.
 fn most_of(stage: u8, len: usize) -> usize
     requires { ⌜ len ≤ payloadMax ⌝ }
-    ensures { λ r. ⌜ (r ≡ most stage len) × (r ≤ bodyMax) ⌝ }
+    ensures { λ r. ⌜ (r ≡ most stage len) × (r ≤ heldMax) ⌝ }
 {
     if stage == IN_LEAD {
         LENGTH_AT
     } else {
-        HEADER + 1 + len
+        PAYLOAD_AT + 1 + len
     }
 }
 
@@ -201,11 +212,11 @@ fn fill(
     stage: u8,
     count: usize,
     len: usize,
-    held: &mut [u8; BODY],
+    held: &mut [u8; HELD],
     piece: &[u8],
     from: usize,
 ) -> usize
-    requires { ⌜ (2 ≤ stage) × (len ≤ payloadMax) × (count ≤ most stage len) × (from ≤ length (now piece)) × (length (now held) ≡ bodyMax) ⌝ }
+    requires { ⌜ (2 ≤ stage) × (len ≤ payloadMax) × (count ≤ most stage len) × (from ≤ length (now piece)) × (length (now held) ≡ heldMax) ⌝ }
     ensures { λ r. ⌜ Filled stage count len (now (held .entry)) (now (piece .entry)) from r (now (held .exit)) ⌝ }
 {
     let stop = from + least(piece.len() - from, most_of(stage, len) - count);
@@ -221,8 +232,8 @@ fn fill(
 
 // The piece up to the end of a frame or the end of the piece.
 // It is long because each move has its arm here: a call from an arm would have to lend the whole state.
-fn run_in(stage: u8, count: usize, len: usize, held: &mut [u8; BODY], piece: &[u8]) -> Ran
-    requires { ⌜ (inRange stage count len ≡ true) × (length (now held) ≡ bodyMax) ⌝ }
+fn run_in(stage: u8, count: usize, len: usize, held: &mut [u8; HELD], piece: &[u8]) -> Ran
+    requires { ⌜ (inRange stage count len ≡ true) × (length (now held) ≡ heldMax) ⌝ }
     ensures { λ r. ⌜ Runs stage count len (now (held .entry)) (now (piece .entry)) r (now (held .exit)) ⌝ }
 {
     let mut stage = stage;
@@ -257,7 +268,7 @@ fn run_in(stage: u8, count: usize, len: usize, held: &mut [u8; BODY], piece: &[u
                 Move::Size => {
                     held[LENGTH_AT] = b;
                     stage = IN_BODY;
-                    count = HEADER;
+                    count = PAYLOAD_AT;
                     len = b as usize;
                 }
                 Move::Close => {
@@ -303,16 +314,16 @@ pub(crate) fn checksum_of(len: usize, s: &[u8]) -> u16
     ensures { λ r. ⌜ r ≡ checksum (earlierOf (take 6 (now (s .entry))) len (take len (drop 7 (now (s .entry))))) ⌝ }
 {
     let marks = FIRST_MARK as usize + SECOND_MARK as usize;
-    let sum = marks + len + total_of(s, 0, LENGTH_AT) + total_of(s, HEADER, len);
+    let sum = marks + len + total_of(s, 0, LENGTH_AT) + total_of(s, PAYLOAD_AT, len);
     (sum % 65536) as u16
 }
 
 // What a frame comes to, by its length, the last byte of its checksum and the held bytes.
 fn judge_frame(len: usize, last: u8, held: &[u8]) -> Answer
-    requires { ⌜ (len ≤ payloadMax) × (length (now held) ≡ bodyMax) ⌝ }
+    requires { ⌜ (len ≤ payloadMax) × (length (now held) ≡ heldMax) ⌝ }
     ensures { λ r. ⌜ JudgedAs (judgedFrame len last (now (held .entry))) r ⌝ }
 {
-    let came = word(held[HEADER + len], last);
+    let came = word(held[PAYLOAD_AT + len], last);
     if came != checksum_of(len, held) {
         return Answer::Damaged(Damage::WrongSum);
     }
@@ -330,7 +341,7 @@ fn judge_frame(len: usize, last: u8, held: &[u8]) -> Answer
 
 // What the end of a run comes to.
 fn judge(end: End, held: &[u8]) -> Answer
-    requires { ⌜ Fits end × (length (now held) ≡ bodyMax) ⌝ }
+    requires { ⌜ Fits end × (length (now held) ≡ heldMax) ⌝ }
     ensures { λ r. ⌜ JudgedAs (eventOf end (now (held .entry))) r ⌝ }
 {
     match end {
@@ -341,14 +352,14 @@ fn judge(end: End, held: &[u8]) -> Answer
 
 // A message's data go to the front of the lent buffer.
 fn deliver(answer: Answer, held: &[u8], lent: &mut [u8])
-    requires { ⌜ Small answer × (length (now held) ≡ bodyMax) × (lentLeast ≤ length (now lent)) ⌝ }
+    requires { ⌜ Small answer × (length (now held) ≡ heldMax) × (lentLeast ≤ length (now lent)) ⌝ }
     ensures { λ _. ⌜ now (lent .exit) ≡ given answer (now (held .entry)) (now (lent .entry)) ⌝ }
 {
     match answer {
         Answer::Message(h) => {
             let n = h.len;
-            let end = HEADER + n;
-            bytes::copy(&held[HEADER..end], lent);
+            let end = PAYLOAD_AT + n;
+            bytes::copy(&held[PAYLOAD_AT..end], lent);
         }
         Answer::Done => {}
         Answer::Damaged(_) => {}
@@ -357,13 +368,13 @@ fn deliver(answer: Answer, held: &[u8], lent: &mut [u8])
 }
 
 impl Reader {
-    // source, destination, control, function and length
+    // the bytes before a message's data, start marks included
     pub const HEADER: usize = HEADER;
-    // the data that a message has at most
+    // the data bytes that a message has at most
     pub const PAYLOAD: usize = PAYLOAD;
-    // both, and the checksum's first byte: what a reader holds
+    // the bytes that a message has at most on the wire, with header, data and checksum, but without flags and stuffing
     pub const BODY: usize = BODY;
-    // what a host lends at least, whatever the family
+    // the bytes that a host lends at least, whatever the family
     pub const LENT: usize = 255;
 
     // The reader before the first byte.
@@ -371,7 +382,7 @@ impl Reader {
         ensures { λ r. ⌜ IsFresh r ⌝ }
     {
         Reader {
-            held: [0; BODY],
+            held: [0; HELD],
             stage: LOOKING,
             count: 0,
             len: 0,

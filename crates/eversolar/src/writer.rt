@@ -1,5 +1,6 @@
 // The writer: one message as the bytes of a frame.
 use crate::reader::FIRST_MARK;
+use crate::reader::MARKS;
 use crate::reader::Reader;
 use crate::reader::SECOND_MARK;
 use crate::reader::checksum_of;
@@ -13,11 +14,6 @@ ghost use lib.ListN.{length};
 ghost use lib.Seq.{sets};
 ghost use Rattle.eversolar.specs.Wire.{earlierOf};
 ghost use Rattle.eversolar.specs.Writer.{IsWritten};
-
-// Where the body begins, and where the data do: after AA 55; after source, destination, control, function and length too.
-const BODY_AT: usize = 2;
-
-const PAYLOAD_AT: usize = BODY_AT + Reader::HEADER;
 
 // Stores all that stands before the data.
 fn put_lead(
@@ -61,8 +57,9 @@ pub fn write(
     if Reader::PAYLOAD < n {
         return Written::Refused(Refusal::TooLong);
     }
-    let sum_at = PAYLOAD_AT + n;
-    let length = sum_at + 2;
+    let sum_at = Reader::HEADER + n;
+    // the longest frame's bytes, less the data that are missing
+    let length = Reader::BODY - (Reader::PAYLOAD - n);
     if lent.len() < length {
         return Written::Refused(Refusal::NoRoom);
     }
@@ -76,8 +73,8 @@ pub fn write(
         n as u8,
         lent,
     );
-    bytes::copy(payload, &mut lent[PAYLOAD_AT..]);
-    let sum = checksum_of(n, &lent[BODY_AT..]);
+    bytes::copy(payload, &mut lent[Reader::HEADER..]);
+    let sum = checksum_of(n, &lent[MARKS..]);
     let pair = bytes_of(sum);
     lent[sum_at] = pair.first;
     lent[sum_at + 1] = pair.second;

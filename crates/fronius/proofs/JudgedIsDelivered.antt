@@ -16,7 +16,7 @@ use Rattle.stream.specs.Event.{message, damage, Told, gives, outcome}
 use Rattle.stream.specs.Call.{retold, delivered}
 use Rattle.fronius.specs.Wire.{Message, payloadMax, checksum, messageOf}
 use Rattle.fronius.specs.Rules.{judged}
-use Rattle.fronius.specs.Machine.{bodyMax}
+use Rattle.fronius.specs.Machine.{heldMax}
 use Rattle.fronius.specs.Reader.{told, header}
 use Rattle.fronius.specs.Inside.{judgedFrame, eventOf, Fits, JudgedAs, Small, given}
 use Rattle.fronius.specs.declared.reader.Header.{Header}
@@ -54,7 +54,7 @@ module _ (len : ℕ) (held : List ℕ) (room : 3 + len ≤ length held) where
 abbrev DeliversTo : List ℕ → List ℕ → Told Message → Type 0
 DeliversTo held lent t = Delivers header (λ m. m .payload) (λ h. h .len) payloadMax 3 held lent (retold header t) t
 
-end-delivers : (end : End) (held lent : List ℕ) → Fits end → length held ≡ bodyMax → DeliversTo held lent (outcome (eventOf end held))
+end-delivers : (end : End) (held lent : List ℕ) → Fits end → length held ≡ heldMax → DeliversTo held lent (outcome (eventOf end held))
 unfolding judged
 end-delivers UsedUp held lent f l = (tt, refl)
 end-delivers (Closed len sum) held lent f l = go (eqb sum (checksum (len ∷ take (3 + len) held)))
@@ -67,6 +67,6 @@ end-delivers (Closed len sum) held lent f l = go (eqb sum (checksum (len ∷ tak
     go false = (tt, refl)
 end-delivers BadLength held lent f l = (tt, refl)
 
-pub delivers : (end : End) (held lent : List ℕ) (a : Answer) → Fits end → length held ≡ bodyMax → JudgedAs (eventOf end held) a
+pub delivers : (end : End) (held lent : List ℕ) (a : Answer) → Fits end → length held ≡ heldMax → JudgedAs (eventOf end held) a
     → Small a × (given a held lent ≡ delivered (λ (m : Message). m .payload) (outcome (eventOf end held)) lent)
 delivers end held lent a f l e = delivers-told header (λ m. m .payload) (λ h. h .len) payloadMax 3 held lent (told a) (outcome (eventOf end held)) e (end-delivers end held lent f l)

@@ -32,13 +32,13 @@ module _ (d n c : ℕ) (bs lent : List ℕ) where
   pub no-room : length bs ≤ payloadMax → length lent < 7 + length bs + 1 → IsWritten d n c bs lent (Refused NoRoom) lent
   no-room h r = rw (le-ltb payloadMax (length bs) h) (writes-no-room (wire M) lent (omega (arith, wire-length M)))
 
-  pub done : (later : List ℕ) → length bs ≤ payloadMax → 7 + length bs + 1 ≤ length lent → later ≡ wire M ++ drop (length (wire M)) lent
-      → IsWritten d n c bs lent (Done (7 + length bs + 1)) later
-  done later h r e =
-      let count : length (wire M) ≡ 7 + length bs + 1 = omega (arith, wire-length M) in
+  pub done : (count : ℕ) (later : List ℕ) → length bs ≤ payloadMax → count ≡ 7 + length bs + 1 → 7 + length bs + 1 ≤ length lent
+      → later ≡ wire M ++ drop (length (wire M)) lent → IsWritten d n c bs lent (Done count) later
+  done count later h is r e =
+      let all : length (wire M) ≡ count = omega (arith, wire-length M) in
       rw (le-ltb payloadMax (length bs) h)
-      (subst (λ (l : List ℕ). Writes false (wire M) lent (Done (7 + length bs + 1)) l) (sym e)
-      (subst (λ (k : ℕ). Writes false (wire M) lent (Done k) (wire M ++ drop (length (wire M)) lent)) count
+      (subst (λ (l : List ℕ). Writes false (wire M) lent (Done count) l) (sym e)
+      (subst (λ (k : ℕ). Writes false (wire M) lent (Done k) (wire M ++ drop (length (wire M)) lent)) all
       (writes-done (wire M) lent (omega (arith, wire-length M)))))
 
   -- lead and data in front of the rest

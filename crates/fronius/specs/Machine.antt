@@ -22,11 +22,11 @@ abbrev pub filling : ℕ → ℕ → List ℕ → Reader
 filling count len held = record { held = held; stage = 1; count = count; len = len }
 
 -- device, number, command and data: what a reader holds
-abbrev pub bodyMax : ℕ
-bodyMax = 3 + payloadMax
+abbrev pub heldMax : ℕ
+heldMax = 3 + payloadMax
 
 abbrev pub fresh : Reader
-fresh = counting 0 (replicate bodyMax 0)
+fresh = counting 0 (replicate heldMax 0)
 
 -- the range of each stage; a field that the stage does not use is 0
 unfoldable pub inRange : ℕ → ℕ → ℕ → Bool

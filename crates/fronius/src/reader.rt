@@ -5,7 +5,7 @@
 //     80 80 80 | length | device | number | command | data           | checksum
 //     start    | 1      | 1      | 1      | 1       | length, 0..127 | 1
 //
-// What a reader holds is the body: device, number, command and data. The checksum covers all but the start and itself.
+// What a reader holds are device, number, command and data. The checksum covers all but the start and itself.
 use answers::Damage;
 use answers::Refusal;
 use numbers::least;
@@ -17,21 +17,33 @@ ghost use lib.ListN.{length, take};
 ghost use Rattle.stream.specs.Call.{lentLeast};
 ghost use Rattle.fronius.specs.Wire.{payloadMax, checksum};
 ghost use Rattle.numbers.specs.Lists.{total};
-ghost use Rattle.fronius.specs.Machine.{bodyMax, advanceOf, inRange};
+ghost use Rattle.fronius.specs.Machine.{heldMax, advanceOf, inRange};
 ghost use Rattle.fronius.specs.Reader.{IsFresh, IsStep};
 ghost use Rattle.fronius.specs.Inside.{Filled, Fits, Runs, eventOf, judgedFrame, JudgedAs, Small, given};
 
-// The limits, named here because the reader's own constants cannot size its own array.
-const HEADER: usize = 3;
+// The limits, named here because the reader's own constants cannot size its own array. 80 80 80, length, device, number and command come before the data.
+const HEADER: usize = 7;
 
 const PAYLOAD: usize = 127;
 
-const BODY: usize = HEADER + PAYLOAD;
+// The checksum's one byte.
+const SUM: usize = 1;
+
+const BODY: usize = HEADER + PAYLOAD + SUM;
+
+// 80 80 80 and the length: how many bytes at the front of a frame are not held.
+pub(crate) const UNHELD: usize = 4;
+
+// What a reader holds at most: all but these and the checksum, which ends the frame.
+const HELD: usize = BODY - UNHELD - SUM;
+
+// Where the data begin among the held bytes.
+const PAYLOAD_AT: usize = HEADER - UNHELD;
 
 // What the bytes read so far have led to. A field that the stage does not use is 0; what `held` has beyond `count` is left over and means nothing.
 pub struct Reader {
     // device, number, command and data, as far as they have come
-    pub held: [u8; BODY],
+    pub held: [u8; HELD],
     // AT_START or IN_BODY
     pub stage: u8,
     // at the start the successive 80s seen, 3 where the length is awaited; in the body the bytes held
@@ -90,7 +102,7 @@ fn in_range(stage: u8, count: usize, len: usize) -> bool
     if PAYLOAD < len {
         return false;
     }
-    count <= HEADER + len
+    count <= PAYLOAD_AT + len
 }
 
 // What one byte asks of the reader.
@@ -127,7 +139,7 @@ fn advance(stage: u8, count: usize, len: usize, b: u8) -> Move
         }
         return Move::Bad;
     }
-    if count < HEADER + len {
+    if count < PAYLOAD_AT + len {
         return Move::Keep;
     }
     Move::Close
@@ -151,11 +163,11 @@ struct Ran {
 }
 
 // Takes in bytes of the body from `from` on, whatever they are: as many as it still lacks and the piece has. Gives the index after the last.
-fn fill(count: usize, len: usize, held: &mut [u8; BODY], piece: &[u8], from: usize) -> usize
-    requires { ⌜ (count ≤ 3 + len) × (len ≤ payloadMax) × (from ≤ length (now piece)) × (length (now held) ≡ bodyMax) ⌝ }
+fn fill(count: usize, len: usize, held: &mut [u8; HELD], piece: &[u8], from: usize) -> usize
+    requires { ⌜ (count ≤ 3 + len) × (len ≤ payloadMax) × (from ≤ length (now piece)) × (length (now held) ≡ heldMax) ⌝ }
     ensures { λ r. ⌜ Filled count len (now (held .entry)) (now (piece .entry)) from r (now (held .exit)) ⌝ }
 {
-    let stop = from + least(piece.len() - from, HEADER + len - count);
+    let stop = from + least(piece.len() - from, PAYLOAD_AT + len - count);
     let mut at = count;
     let mut i = from;
     while i < stop {
@@ -168,8 +180,8 @@ fn fill(count: usize, len: usize, held: &mut [u8; BODY], piece: &[u8], from: usi
 
 // The piece, byte by byte, up to the end of a frame, a bad length or the end of the piece.
 // It is long because each move has its arm here: a call from an arm would have to lend the whole state.
-fn run_in(stage: u8, count: usize, len: usize, held: &mut [u8; BODY], piece: &[u8]) -> Ran
-    requires { ⌜ (inRange stage count len ≡ true) × (length (now held) ≡ bodyMax) ⌝ }
+fn run_in(stage: u8, count: usize, len: usize, held: &mut [u8; HELD], piece: &[u8]) -> Ran
+    requires { ⌜ (inRange stage count len ≡ true) × (length (now held) ≡ heldMax) ⌝ }
     ensures { λ r. ⌜ Runs stage count len (now (held .entry)) (now (piece .entry)) r (now (held .exit)) ⌝ }
 {
     let mut stage = stage;
@@ -247,13 +259,13 @@ pub(crate) fn checksum_of(len: usize, s: &[u8]) -> u8
     requires { ⌜ (3 + len ≤ length (now s)) × (len ≤ payloadMax) ⌝ }
     ensures { λ r. ⌜ r ≡ checksum (len ∷ take (3 + len) (now (s .entry))) ⌝ }
 {
-    let sum = len + total_of(s, HEADER + len) as usize;
+    let sum = len + total_of(s, PAYLOAD_AT + len) as usize;
     (sum % 256) as u8
 }
 
 // What a frame comes to, by its length, the checksum that came and the held bytes.
 fn judge_frame(len: usize, sum: u8, held: &[u8]) -> Answer
-    requires { ⌜ (len ≤ payloadMax) × (length (now held) ≡ bodyMax) ⌝ }
+    requires { ⌜ (len ≤ payloadMax) × (length (now held) ≡ heldMax) ⌝ }
     ensures { λ r. ⌜ JudgedAs (judgedFrame len sum (now (held .entry))) r ⌝ }
 {
     if sum != checksum_of(len, held) {
@@ -270,7 +282,7 @@ fn judge_frame(len: usize, sum: u8, held: &[u8]) -> Answer
 
 // What the end of a run comes to.
 fn judge(end: End, held: &[u8]) -> Answer
-    requires { ⌜ Fits end × (length (now held) ≡ bodyMax) ⌝ }
+    requires { ⌜ Fits end × (length (now held) ≡ heldMax) ⌝ }
     ensures { λ r. ⌜ JudgedAs (eventOf end (now (held .entry))) r ⌝ }
 {
     match end {
@@ -282,14 +294,14 @@ fn judge(end: End, held: &[u8]) -> Answer
 
 // A message's data go to the front of the lent buffer.
 fn deliver(answer: Answer, held: &[u8], lent: &mut [u8])
-    requires { ⌜ Small answer × (length (now held) ≡ bodyMax) × (lentLeast ≤ length (now lent)) ⌝ }
+    requires { ⌜ Small answer × (length (now held) ≡ heldMax) × (lentLeast ≤ length (now lent)) ⌝ }
     ensures { λ _. ⌜ now (lent .exit) ≡ given answer (now (held .entry)) (now (lent .entry)) ⌝ }
 {
     match answer {
         Answer::Message(h) => {
             let n = h.len;
-            let end = HEADER + n;
-            bytes::copy(&held[HEADER..end], lent);
+            let end = PAYLOAD_AT + n;
+            bytes::copy(&held[PAYLOAD_AT..end], lent);
         }
         Answer::Done => {}
         Answer::Damaged(_) => {}
@@ -298,13 +310,13 @@ fn deliver(answer: Answer, held: &[u8], lent: &mut [u8])
 }
 
 impl Reader {
-    // device, number, command
+    // the bytes before a message's data, start marks included
     pub const HEADER: usize = HEADER;
-    // the data that a message has at most
+    // the data bytes that a message has at most
     pub const PAYLOAD: usize = PAYLOAD;
-    // both: what a reader holds
+    // the bytes that a message has at most on the wire, with header, data and checksum, but without flags and stuffing
     pub const BODY: usize = BODY;
-    // what a host lends at least, whatever the family
+    // the bytes that a host lends at least, whatever the family
     pub const LENT: usize = 255;
 
     // The reader before the first byte.
@@ -312,7 +324,7 @@ impl Reader {
         ensures { λ r. ⌜ IsFresh r ⌝ }
     {
         Reader {
-            held: [0; BODY],
+            held: [0; HELD],
             stage: AT_START,
             count: 0,
             len: 0,

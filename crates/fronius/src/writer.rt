@@ -1,6 +1,7 @@
 // The writer: one message as the bytes of a frame.
 use crate::reader::MARK;
 use crate::reader::Reader;
+use crate::reader::UNHELD;
 use crate::reader::checksum_of;
 use answers::Refusal;
 use answers::Written;
@@ -10,11 +11,6 @@ ghost use lib.ListN.{length};
 ghost use lib.Seq.{sets};
 ghost use Rattle.fronius.specs.Writer.{IsWritten};
 ghost use Rattle.fronius.specs.Inside.{lead};
-
-// Where the body begins, and where the data do: after the start and the length; after device, number and command too.
-const BODY_AT: usize = 4;
-
-const PAYLOAD_AT: usize = BODY_AT + Reader::HEADER;
 
 // Stores all that stands before the data.
 fn put_lead(len: u8, device: u8, number: u8, command: u8, lent: &mut [u8])
@@ -38,14 +34,15 @@ pub fn write(device: u8, number: u8, command: u8, payload: &[u8], lent: &mut [u8
     if Reader::PAYLOAD < n {
         return Written::Refused(Refusal::TooLong);
     }
-    let last = PAYLOAD_AT + n;
-    let length = last + 1;
+    let last = Reader::HEADER + n;
+    // the longest frame's bytes, less the data that are missing
+    let length = Reader::BODY - (Reader::PAYLOAD - n);
     if lent.len() < length {
         return Written::Refused(Refusal::NoRoom);
     }
     put_lead(n as u8, device, number, command, lent);
-    bytes::copy(payload, &mut lent[PAYLOAD_AT..]);
-    let sum = checksum_of(n, &lent[BODY_AT..]);
+    bytes::copy(payload, &mut lent[Reader::HEADER..]);
+    let sum = checksum_of(n, &lent[UNHELD..]);
     lent[last] = sum;
     Written::Done(length)
 }

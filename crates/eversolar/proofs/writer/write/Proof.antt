@@ -42,7 +42,7 @@ abbrev copied : tie.After-bytes-of → tie.After-copy
 copied c = c .before .before .before .before .before .before
 
 room : (c : tie.After-copy) → 9 + length (start c .args .payload .now) + 2 ≤ length (start c .args .lent .now)
-room c = omega (arith, tested c .if2 .left)
+room c = omega (arith, tested c .before .if1 .left, tested c .if2 .left)
 
 put : (c : tie.After-copy) → headed c ≡ sets (start c .args .lent .now) 0 (first (msg (start c)) (start c .args .lent .now))
 put c = c .before .before .before .before .put-lead .ensures
@@ -68,8 +68,8 @@ returns c =
 add-sum-at : tie.Need-add-sum-at
 add-sum-at c = search needs
 
-add-length : tie.Need-add-length
-add-length c = search needs
+sub-length : tie.Need-sub-length
+sub-length c = search needs
 
 returns-2 : tie.Need-returns-2
 returns-2 c =
@@ -127,7 +127,7 @@ returns-3 c =
     let s = start k in
     let lent = s .args .lent .now in
     let sum = c .before .checksum-of .ensures ∙ ap checksum (all-summed (msg s) lent (held k) (stored k) (room k)) in
-    done (msg s) lent _ (omega (arith, tested k .before .if1 .left)) (room k)
+    done (msg s) lent _ _ (omega (arith, tested k .before .if1 .left)) (omega (arith, tested k .before .if1 .left)) (room k)
     (framed (msg s) lent (held k) (c .bytes-of .result .first) (c .bytes-of .result .second) (stored k) (c .bytes-of .ensures ∙ ap wordBytes sum) (room k))
 
 pub write-spec : {M : Type 1} → statement M
@@ -136,7 +136,7 @@ write-spec =
     (tie.spec
     returns
     add-sum-at
-    add-length
+    sub-length
     returns-2
     cast-put-lead
     put-lead-requires

@@ -30,7 +30,7 @@ abbrev held : tie.After-copy → List ℕ
 held c = putMid 7 (length (headed c) - 7) (headed c) (c .copy .last .1 .0)
 
 room : (c : tie.After-copy) → 7 + length (start c .args .payload .now) + 1 ≤ length (start c .args .lent .now)
-room c = tested c .if2 .left
+room c = omega (arith, tested c .before .if1 .left, tested c .if2 .left)
 
 -- all that stands before the data
 abbrev first : tie.After-copy → List ℕ
@@ -55,13 +55,13 @@ returns c =
 add-last : tie.Need-add-last
 add-last c = search needs
 
-add-length : tie.Need-add-length
-add-length c = search needs
+sub-length : tie.Need-sub-length
+sub-length c = search needs
 
 returns-2 : tie.Need-returns-2
 returns-2 c =
     let a = c .before .before .before .before .args in
-    no-room (a .device) (a .number) (a .command) (a .payload .now) (a .lent .now) (c .before .if1 .left) (c .if2 .taken)
+    no-room (a .device) (a .number) (a .command) (a .payload .now) (a .lent .now) (c .before .if1 .left) (omega (arith, c .before .if1 .left, c .if2 .taken))
 
 cast-put-lead : tie.Need-cast-put-lead
 cast-put-lead c = search needs
@@ -106,7 +106,7 @@ returns-3 c =
     let k = c .before .before .before .before .before in
     let a = start k .args in
     let summed-up = c .checksum-of .ensures ∙ ap (λ (l : List ℕ). checksum (length (a .payload .now) ∷ l)) (summed (a .device) (a .number) (a .command) (a .payload .now) (a .lent .now) (held k) (stored k) (room k)) in
-    done (a .device) (a .number) (a .command) (a .payload .now) (a .lent .now) _ (tested k .before .if1 .left) (room k)
+    done (a .device) (a .number) (a .command) (a .payload .now) (a .lent .now) _ _ (tested k .before .if1 .left) (omega (arith, tested k .before .if1 .left)) (room k)
     (framed (a .device) (a .number) (a .command) (a .payload .now) (a .lent .now) (held k) (c .checksum-of .result) (stored k) summed-up (room k))
 
 pub write-spec : {M : Type 1} → statement M
@@ -115,7 +115,7 @@ write-spec =
     (tie.spec
     returns
     add-last
-    add-length
+    sub-length
     returns-2
     cast-put-lead
     put-lead-requires

@@ -4,7 +4,7 @@ use Rattle.stream.specs.Event.{outcome}
 use Rattle.stream.specs.Call.{Seen, lentLeast, delivered}
 use Rattle.stream.proofs.PromiseOfStep.{steps-spoilt, steps-no-room, steps-scan}
 use Rattle.eversolar.specs.Wire.{Message}
-use Rattle.eversolar.specs.Machine.{bodyMax, next}
+use Rattle.eversolar.specs.Machine.{heldMax, next}
 use Rattle.eversolar.specs.Reader.{inRange, header, shown}
 use Rattle.eversolar.specs.Inside.{eventOf, Small, given}
 use Rattle.eversolar.specs.declared.reader.Reader.{Reader}
@@ -25,7 +25,7 @@ use Rattle.eversolar.proofs.reader.Reader.step.Tie as tie
 abbrev start : tie.After-run-in → tie.Start
 start c = c .before .before .before .before .before .before .before
 
-full-at : (c : tie.Start) → length (c .args .t1 .held) ≡ bodyMax
+full-at : (c : tie.Start) → length (c .args .t1 .held) ≡ heldMax
 full-at c = sym (length-map (c .args .t1 .held) (λ (v : ℕ). v)) ∙ c .good .0 .1 .1 .0 .1 .0 .1
 
 sound-at : (c : tie.Else1) → inRange (c .before .before .before .before .args .t1) ≡ true
@@ -41,7 +41,7 @@ held c = c .run-in .last .1 .1 .1 .0
 abbrev after : tie.After-run-in → Reader
 after c = record { held = held c; stage = c .run-in .result .stage; count = c .run-in .result .count; len = c .run-in .result .len }
 
-full : (c : tie.After-run-in) → length (held c) ≡ bodyMax
+full : (c : tie.After-run-in) → length (held c) ≡ heldMax
 full c = c .run-in .ensures .sized ∙ full-at (start c)
 
 -- the run a judged answer came from, and what it delivers
