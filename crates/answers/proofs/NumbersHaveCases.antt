@@ -1,17 +1,19 @@
 -- The way back from a number to its case, so that what is told alike is one.
 -- Assumes nothing.
-use Prim.Native.Nat.{ℕ, zero, suc, _+_, _-_, _≤_, _<_}
+use Prim.Native.Nat.{ℕ, zero, suc, _+_, _≤_, _<_}
 use mathlib.Core.Path.{_≡_, refl, sym, ap, _∙_}
-use mathlib.Core.List.{List, [], _∷_, map, head-eq-of-cons-eq, tail-eq-of-cons-eq}
-use lib.ListN.{length, getD}
-use native.Mathlib.Nat.{add-zero, add-suc, suc-add, le-of-suc-le-suc, not-suc-le-zero}
+use mathlib.Core.Bool.{Bool, true, false, cond}
+use mathlib.Core.List.{List, [], _∷_, map}
+use lib.ListN.{getD}
+use lib.Dec.{eqb, leb}
+use borrow.Author.Tests.{eqb-true, leb-true}
 use native.Mathlib.Omega.{arith}
 use Rattle.numbers.proofs.Alike.{alike-by-back}
 use Rattle.answers.specs.Answer.{Answer, answer}
 use Rattle.answers.specs.Refusal as Refusal
 use Rattle.answers.specs.Damage as Damage
 use Rattle.answers.specs.Written as Written
-use Rattle.answers.specs.Demands.{Refusals, Damages}
+use Rattle.answers.specs.Demands.{times, Refusals, Damages}
 use Rattle.answers.specs.declared.Refusal.{Refusal}
 use Rattle.answers.specs.declared.Refusal.the-variants.{TooLong, NoRoom, WrongMark, WrongVersion, WrongPortOrCount, BytesMissing, RosterFull, ExponentTooHigh, WrongAddressOrExponentTooLow, NotForThisCall, Spoilt, TooManyPackets}
 use Rattle.answers.specs.declared.Damage.{Damage}
@@ -19,86 +21,67 @@ use Rattle.answers.specs.declared.Damage.the-variants.{BrokenPair, Wrong
 use Rattle.answers.specs.declared.Written.{Written}
 use Rattle.answers.specs.declared.Written.the-variants.{Done, Refused}
 
--- low, low + 1, .., n of them
-abbrev rising : ℕ → ℕ → List ℕ
-rising low zero = []
-rising low (suc n) = low ∷ rising (suc low) n
+-- of the cases listed the first that has the number n, else `other`
+abbrev named : {A : Type 0} → (A → ℕ) → A → List A → ℕ → A
+named told other [] n = other
+named told other (c ∷ cases) n = cond (eqb n (told c)) c (named told other cases n)
 
--- where cases listed in order are numbered in order, the case listed at k has the number low + k
-in-order : {A : Type 0} (told : A → ℕ) (other : A) (cases : List A) (low : ℕ) → map told cases ≡ rising low (length cases)
-    → (k : ℕ) → k < length cases → told (getD cases k other) ≡ low + k
-in-order told other [] low e k h = absurd (not-suc-le-zero h)
-in-order told other (c ∷ cases) low e zero h = head-eq-of-cons-eq e ∙ sym (add-zero low)
-in-order told other (c ∷ cases) low e (suc k) h =
-    in-order told other cases (suc low) (tail-eq-of-cons-eq e) k (le-of-suc-le-suc h) ∙ suc-add low k ∙ sym (add-suc low k)
+-- it has that number, if one has
+has-name : {A : Type 0} (told : A → ℕ) (other : A) (cases : List A) (n : ℕ) → 0 < times n (map told cases) → told (named told other cases n) ≡ n
+has-name told other [] n h = absurd (omega arith)
+has-name told other (c ∷ cases) n h = go (eqb n (told c)) refl h (has-name told other cases n)
+  where
+    go : (t : Bool) → eqb n (told c) ≡ t → 0 < cond t 1 0 + times n (map told cases) → (0 < times n (map told cases) → told (named told other cases n) ≡ n)
+        → told (cond t c (named told other cases n)) ≡ n
+    go true e k rest = sym (eqb-true n (told c) e)
+    go false e k rest = rest (omega arith)
 
-allRefusals : List Refusal
+abbrev allRefusals : List Refusal
 allRefusals = TooLong ∷ NoRoom ∷ WrongMark ∷ WrongVersion ∷ WrongPortOrCount ∷ BytesMissing ∷ RosterFull ∷ ExponentTooHigh ∷ WrongAddressOrExponentTooLow ∷ NotForThisCall ∷ Spoilt ∷ TooManyPackets ∷ []
 
+-- of each refusal: its number is listed once and leads back to it; it is not below 8
+each-refusal : (r : Refusal)
+    → let n = Refusal.number r in
+    (times n (map Refusal.number allRefusals) ≡ 1) × (named Refusal.number Spoilt allRefusals n ≡ r) × (leb 8 n ≡ true)
+each-refusal TooLong = (refl, refl, refl)
+each-refusal NoRoom = (refl, refl, refl)
+each-refusal WrongMark = (refl, refl, refl)
+each-refusal WrongVersion = (refl, refl, refl)
+each-refusal WrongPortOrCount = (refl, refl, refl)
+each-refusal BytesMissing = (refl, refl, refl)
+each-refusal RosterFull = (refl, refl, refl)
+each-refusal ExponentTooHigh = (refl, refl, refl)
+each-refusal WrongAddressOrExponentTooLow = (refl, refl, refl)
+each-refusal NotForThisCall = (refl, refl, refl)
+each-refusal Spoilt = (refl, refl, refl)
+each-refusal TooManyPackets = (refl, refl, refl)
+
 pub refusals : Refusals
-unfolding allRefusals
 refusals = record {
-  within = range;
-  back = λ n. getD allRefusals (n - 8) Spoilt;
-  case = case;
-  number = λ n l h. in-order Refusal.number Spoilt allRefusals 8 refl (n - 8) (omega arith) ∙ omega arith;
+  once = λ r. each-refusal r .0;
+  back = named Refusal.number Spoilt allRefusals;
+  case = λ r. each-refusal r .1;
+  number = has-name Refusal.number Spoilt allRefusals;
 }
-  where
-    range : (r : Refusal) → (8 ≤ Refusal.number r) × (Refusal.number r ≤ 19)
-    range TooLong = omega arith
-    range NoRoom = omega arith
-    range WrongMark = omega arith
-    range WrongVersion = omega arith
-    range WrongPortOrCount = omega arith
-    range BytesMissing = omega arith
-    range RosterFull = omega arith
-    range ExponentTooHigh = omega arith
-    range WrongAddressOrExponentTooLow = omega arith
-    range NotForThisCall = omega arith
-    range Spoilt = omega arith
-    range TooManyPackets = omega arith
 
-    case : (r : Refusal) → getD allRefusals (Refusal.number r - 8) Spoilt ≡ r
-    case TooLong = refl
-    case NoRoom = refl
-    case WrongMark = refl
-    case WrongVersion = refl
-    case WrongPortOrCount = refl
-    case BytesMissing = refl
-    case RosterFull = refl
-    case ExponentTooHigh = refl
-    case WrongAddressOrExponentTooLow = refl
-    case NotForThisCall = refl
-    case Spoilt = refl
-    case TooManyPackets = refl
-
-allDamages : List Damage
+abbrev allDamages : List Damage
 allDamages = BrokenPair ∷ WrongBodyLength ∷ WrongStart ∷ WrongSize ∷ WrongSum ∷ WrongLengthByte ∷ []
 
-pub damages : Damages
-unfolding allDamages
-damages = record {
-  within = range;
-  back = λ n. getD allDamages (n - 2) WrongSum;
-  case = case;
-  number = λ n l h. in-order Damage.number WrongSum allDamages 2 refl (n - 2) (omega arith) ∙ omega arith;
-}
-  where
-    range : (d : Damage) → (2 ≤ Damage.number d) × (Damage.number d ≤ 7)
-    range BrokenPair = omega arith
-    range WrongBodyLength = omega arith
-    range WrongStart = omega arith
-    range WrongSize = omega arith
-    range WrongSum = omega arith
-    range WrongLengthByte = omega arith
+each-damage : (d : Damage) → let n = Damage.number d in (times n (map Damage.number allDamages) ≡ 1) × (named Damage.number WrongSum allDamages n ≡ d)
+each-damage BrokenPair = (refl, refl)
+each-damage WrongBodyLength = (refl, refl)
+each-damage WrongStart = (refl, refl)
+each-damage WrongSize = (refl, refl)
+each-damage WrongSum = (refl, refl)
+each-damage WrongLengthByte = (refl, refl)
 
-    case : (d : Damage) → getD allDamages (Damage.number d - 2) WrongSum ≡ d
-    case BrokenPair = refl
-    case WrongBodyLength = refl
-    case WrongStart = refl
-    case WrongSize = refl
-    case WrongSum = refl
-    case WrongLengthByte = refl
+pub damages : Damages
+damages = record {
+  once = λ d. each-damage d .0;
+  back = named Damage.number WrongSum allDamages;
+  case = λ d. each-damage d .1;
+  number = has-name Damage.number WrongSum allDamages;
+}
 
 -- told alike is one: by the way back
 pub refusal-alike : (a b : Refusal) → Refusal.number a ≡ Refusal.number b → a ≡ b
@@ -109,7 +92,7 @@ damage-alike = alike-by-back Damage.number (damages .back) (damages .case)
 
 -- a refusal's number is not 0, and no damage has it
 pub refusal-above : (r : Refusal) → 8 ≤ Refusal.number r
-refusal-above r = refusals .within r .0
+refusal-above r = leb-true 8 (Refusal.number r) (each-refusal r .2)
 
 -- The way back from what a call tells: with 0 the other numbers say what was done, and any other number is a refusal's
 abbrev pub heard : {A : Type 0} → (List ℕ → A) → (Refusal → A) → Answer → A
