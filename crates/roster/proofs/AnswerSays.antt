@@ -188,6 +188,11 @@ pub finding-there : (ps : List Place) (s : List ℕ) → Fine ps → length s �
 unfolding finding
 finding-there ps s f l n = simp (fine ps f, eq-eqb _ _ l, n)
 
+-- and one that is not
+pub finding-none : (ps : List Place) (s : List ℕ) → Fine ps → length s ≡ serialSize → noPlace (usedBy s) ps ≡ true → finding ps s ≡ answer 0 (0 ∷ [])
+unfolding finding
+finding-none ps s f l n = simp (fine ps f, eq-eqb _ _ l, n)
+
 pub record Finding (ps : List Place) (s : List ℕ) (address : ℕ) : Type 0 where
   pub fine : Fine ps
   pub fits : length s ≡ serialSize
@@ -206,13 +211,13 @@ finding-of ps s address = go (spoilt ps) refl (isSerial s) refl (noPlace (usedBy
         record { fine = not-spoilt ps e; fits = fit s f; there = λ l. absurd (let z : ⊥ = omega (arith, l, same-address q) in z) }
     go false e true f false n q = record { fine = not-spoilt ps e; fits = fit s f; there = λ l. (n, same-address q) }
 
-pub removing-of : (ps : List Place) (address : ℕ) → removing ps address .0 ≡ answer 0 [] → Held ps address × (removing ps address .1 ≡ set ps (address - 1) freePlace)
+pub removing-of : (ps : List Place) (address : ℕ) → removing ps address .0 ≡ answer 0 [] → Held ps address × (removing ps address .1 ≡ set ps (address - 1) freePlace) × Fine ps
 unfolding removing
-removing-of ps address = go (spoilt ps) (noneAt ps address) refl
+removing-of ps address = go (spoilt ps) refl (noneAt ps address) refl
   where
-    go : (t u : Bool) → noneAt ps address ≡ u
+    go : (t : Bool) → spoilt ps ≡ t → (u : Bool) → noneAt ps address ≡ u
         → (let end : Answer × List Place = need (not t) (refused 0 Spoilt, ps) (need (not u) (refused 0 WrongAddressOrExponentTooLow, ps) (answer 0 [], set ps (address - 1) freePlace)) in
-        end .0 ≡ answer 0 [] → Held ps address × (end .1 ≡ set ps (address - 1) freePlace))
-    go true u f q = never 0 Spoilt [] q
-    go false true f q = never 0 WrongAddressOrExponentTooLow [] q
-    go false false f q = (held ps address f, refl)
+        end .0 ≡ answer 0 [] → Held ps address × (end .1 ≡ set ps (address - 1) freePlace) × Fine ps)
+    go true e u f q = never 0 Spoilt [] q
+    go false e true f q = never 0 WrongAddressOrExponentTooLow [] q
+    go false e false f q = (held ps address f, refl, not-spoilt ps e)

@@ -11,19 +11,23 @@ use lib.Seq.{getD-set-same, lt-length-set}
 use lib.Dec.{ltb}
 use borrow.Author.Tests.{ltb-true, ltb-false}
 use Rattle.answers.specs.Answer.{Answer, answer, number}
-use Rattle.roster.specs.Roster.{places, serialSize, freePlace, free, usedBy, first, noPlace, spoilt, givingSound, giving, finding}
+use Rattle.roster.specs.Roster.{places, serialSize, freePlace, free, usedBy, first, noPlace, spoilt, usedPlace, givingSound, giving, removing, finding}
 use Rattle.roster.specs.Bytes.{placesOf, bytesOf}
-use Rattle.roster.specs.Calls.{toldGiven, IsGiven}
-use Rattle.roster.specs.Demands.{freshRoster, GivenIsFound, GivenTwice, LowestFree, RemovedIsGiven, Fills, addressesFrom, NeverSpoilt, StaysWellFormed, Kept}
+use Rattle.roster.specs.Calls.{toldGiven, IsGiven, IsRemoved}
+use Rattle.roster.specs.Demands.{freshRoster, GivenIsFound, GivenTwice, LowestFree, RemovedIsGiven, Fills, addressesFrom, RemovedIsGone, OthersStay, OnlyOnePlace, NeverSpoilt, StaysWellFormed, Kept}
 use Rattle.roster.specs.declared.Place.{Place}
 use Rattle.roster.specs.declared.Given.{Given}
+use Rattle.roster.specs.declared.Given.the-variants as Given
+use Rattle.roster.specs.declared.Removed.{Removed}
+use Rattle.roster.specs.declared.Removed.the-variants as Removed
 use Rattle.roster.specs.declared.Found.the-variants as Found
 use Rattle.roster.proofs.PlacesInBytes.{bytes-places, places-bytes}
 use Rattle.roster.proofs.SoundTest.{Fine, not-spoilt, fine, sound-whole}
 use Rattle.roster.proofs.RosterRule.{no, first-found, some-pass, fine-free, freed-gone}
-use Rattle.roster.proofs.AnswerSays.{giving-of, giving-fits, gave-there, giving-fine, removing-fine, giving-refused, removing-refused, giving-18, removing-18, finding-18, finding-there, finding-of, removing-of}
-use Rattle.roster.proofs.One.{found-alike}
+use Rattle.roster.proofs.AnswerSays.{giving-of, giving-fits, gave-there, giving-fine, removing-fine, giving-refused, removing-refused, giving-18, removing-18, finding-18, finding-there, finding-none, finding-of, removing-of}
+use Rattle.roster.proofs.One.{removed-alike, found-alike}
 use Rattle.roster.proofs.FillsFromFront.{filling, filled, giving-full, told-over, fresh, fine-fresh}
+use Rattle.roster.proofs.OnePlaceSet.{giving-others, removing-others, removing-found, gave-at, only-at}
 
 -- the places that a sound list's bytes hold
 held-by : (ps : List Place) (later : List ℕ) → Fine ps → later ≡ bytesOf ps → placesOf later ≡ ps
@@ -118,6 +122,63 @@ removed-is-given roster serial later last f r g address pf tf pr tr pg =
       lowest = subst (λ (x : List Place). LowestFree x (first free qs + 1)) (sym holds) (lowest-free qs well some);
       again = omega (arith, there .1, not-above qs k freed some);
     }
+
+-- ---- what one call leaves as it was
+
+-- the places afterwards are those that the rule says
+given-holds : (roster serial later : List ℕ) (g : Given) → IsGiven roster serial g later → placesOf later ≡ giving (placesOf roster) serial .1
+given-holds roster serial later (Given.Address address) p = held-by (giving (placesOf roster) serial .1) later (giving-fine (placesOf roster) serial (giving-of (placesOf roster) serial address (sym (p .0)) .fine)) (p .1)
+given-holds roster serial later (Given.Refused why) p =
+    let same = giving-refused (placesOf roster) serial why (p .0) in
+    ap placesOf (p .1 ∙ ap bytesOf same ∙ bytes-places roster) ∙ sym same
+
+removed-holds : (roster later : List ℕ) (address : ℕ) (r : Removed) → IsRemoved roster address r later → placesOf later ≡ removing (placesOf roster) address .1
+removed-holds roster later address Removed.Done p = held-by (removing (placesOf roster) address .1) later (removing-fine (placesOf roster) address (removing-of (placesOf roster) address (sym (p .0)) .2)) (p .1)
+removed-holds roster later address (Removed.Refused why) p =
+    let same = removing-refused (placesOf roster) address why (p .0) in
+    ap placesOf (p .1 ∙ ap bytesOf same ∙ bytes-places roster) ∙ sym same
+
+pub others-stay : OthersStay
+others-stay = record {
+  given = λ roster serial other later g f h d p a b.
+      (let ps : List Place = placesOf roster in
+      found-alike h f (b .1) (a .1)
+      (b .0 ∙ ap (λ (qs : List Place). finding qs other) (given-holds roster serial later g p) ∙ giving-others ps serial other d ∙ sym (a .0)));
+  removed = λ roster other later address r f h d p a b.
+      (let ps : List Place = placesOf roster in
+      found-alike h f (b .1) (a .1)
+      (b .0
+      ∙ ap (λ (qs : List Place). finding qs other) (removed-holds roster later address r p)
+      ∙ removing-others ps other address (λ l e. d (found-alike f (Found.Address address) (a .1) l (a .0 ∙ e)))
+      ∙ sym (a .0)));
+}
+
+pub removed-is-gone : RemovedIsGone
+removed-is-gone roster serial later address r f a p b =
+    let ps : List Place = placesOf roster in
+    let found = finding-of ps serial address (sym (a .0)) in
+    let there = found .there (a .1) in
+    let k : ℕ = first (usedBy serial) ps in
+    let qs : List Place = set ps k freePlace in
+    let done = removing-found ps serial address (found .fine) (there .0) (there .1) in
+    let holds : placesOf later ≡ qs = removed-holds roster later address r p ∙ ap (λ (end : Answer × List Place). end .1) done in (
+      removed-alike r Removed.Done (p .0 ∙ ap (λ (end : Answer × List Place). end .0) done),
+      found-alike f Found.NoAddress (b .1) tt
+          (b .0 ∙ ap (λ (x : List Place). finding x serial) holds ∙ finding-none qs serial (fine-free ps k (found .fine)) (found .fits) (freed-gone serial ps (found .fine .all))),
+    )
+
+pub only-one-place : OnlyOnePlace
+only-one-place = record {
+  given = λ roster serial later address p.
+      (let ps : List Place = placesOf roster in
+      let of = giving-of ps serial address (sym (p .0)) in
+      let at = gave-at ps serial address (giving ps serial .1) (of .fine) (of .gave) in
+      only-at roster (address - 1) address (usedPlace serial) later (fine ps (of .fine)) (omega (arith, at .1)) (at .2) (of .fits) (p .1 ∙ ap bytesOf (at .0)));
+  removed = λ roster later address p.
+      (let ps : List Place = placesOf roster in
+      let of = removing-of ps address (sym (p .0)) in
+      only-at roster (address - 1) address freePlace later (fine ps (of .2)) (omega (arith, of .0 .above)) (of .0 .within) refl (p .1 ∙ ap bytesOf (of .1)));
+}
 
 -- ---- filling
 

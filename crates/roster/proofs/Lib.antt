@@ -6,4 +6,5 @@ pub mod One
 pub mod RosterRule
 pub mod AnswerSays
 pub mod FillsFromFront
+pub mod OnePlaceSet
 pub mod Demands

@@ -126,7 +126,7 @@ pub alone-free : (p : Place) (ps : List Place) → used p ≡ false → alone p 
 unfolding alone
 alone-free p ps u = simp u
 
-alone-used : (p : Place) (ps : List Place) → used p ≡ true → alone p ps ≡ noPlace (usedBy (p .serial)) ps
+pub alone-used : (p : Place) (ps : List Place) → used p ≡ true → alone p ps ≡ noPlace (usedBy (p .serial)) ps
 unfolding alone
 alone-used p ps u = simp u
 

@@ -1,16 +1,16 @@
 -- What the calls owe each other and their callers, over their own promises.
-use Prim.Native.Nat.{ℕ, zero, suc, _-_, _≤_, _<_}
+use Prim.Native.Nat.{ℕ, zero, suc, _*_, _-_, _≤_, _<_}
 use mathlib.Core.Path.{_≡_}
 use mathlib.Core.Logic.{_↔_}
 use mathlib.Core.Bool.{true, false}
 use mathlib.Core.List.{List, [], _∷_, _++_, map}
-use lib.ListN.{length, getD, replicate}
+use lib.ListN.{length, getD, take, drop, replicate}
 use Rattle.answers.specs.Answer.{Answer, answer, number}
 use Rattle.answers.specs.Refusal.{refused}
 use Rattle.answers.specs.declared.Refusal.{Refusal}
 use Rattle.answers.specs.declared.Refusal.the-variants.{RosterFull}
 use Rattle.roster.specs.Roster.{places, serialSize, freePlace, free, spoilt}
-use Rattle.roster.specs.Bytes.{rosterSize, placesOf}
+use Rattle.roster.specs.Bytes.{placeSize, rosterSize, placesOf}
 use Rattle.roster.specs.Calls.{toldGiven, toldRemoved, toldFound, IsGiven, IsRemoved, IsFound}
 use Rattle.roster.specs.declared.Place.{Place}
 use Rattle.roster.specs.declared.Given.{Given}
@@ -62,6 +62,34 @@ RemovedIsGiven =
     → toldRemoved r ≡ answer 0 []
     → IsGiven later serial g last
     → GivesLowest later address g
+
+-- What was found is removed, and is found no more.
+abbrev pub RemovedIsGone : Type 0
+RemovedIsGone =
+    (roster serial later : List ℕ) (address : ℕ) (r : Removed) (f : Found)
+    → IsFound roster serial (Found.Address address)
+    → IsRemoved roster address r later
+    → IsFound later serial f
+    → (r ≡ Removed.Done) × (f ≡ Found.NoAddress)
+
+-- Giving to one serial, or removing an address, leaves every other serial where it was: what is found of it is the same before and after.
+pub record OthersStay : Type 0 where
+  pub given : (roster serial other later : List ℕ) (g : Given) (f h : Found)
+      → (other ≡ serial → ⊥) → IsGiven roster serial g later → IsFound roster other f → IsFound later other h → h ≡ f
+  pub removed : (roster other later : List ℕ) (address : ℕ) (r : Removed) (f h : Found)
+      → (f ≡ Found.Address address → ⊥) → IsRemoved roster address r later → IsFound roster other f → IsFound later other h → h ≡ f
+
+-- the place of an address holds these bytes afterwards, and every byte before and behind it is as it was
+pub record OnlyAt (address : ℕ) (held roster later : List ℕ) : Type 0 where
+  pub first : 1 ≤ address
+  pub last : address ≤ places
+  pub size : length later ≡ length roster
+  pub bytes : later ≡ take ((address - 1) * placeSize) roster ++ (held ++ drop (address * placeSize) roster)
+
+-- Only the one place changes: giving marks it as used by the serial, and removing zeroes it.
+pub record OnlyOnePlace : Type 0 where
+  pub given : (roster serial later : List ℕ) (address : ℕ) → IsGiven roster serial (Given.Address address) later → OnlyAt address (1 ∷ serial) roster later
+  pub removed : (roster later : List ℕ) (address : ℕ) → IsRemoved roster address Removed.Done later → OnlyAt address (replicate placeSize 0) roster later
 
 -- all bytes zero: every place is free
 abbrev pub freshRoster : List ℕ

@@ -1,4 +1,4 @@
--- Both forms of the roster give the same answers, and leave the same roster.
+-- Both forms of the roster give the same answers, and leave the same roster: what is demanded of the one holds of the other.
 use Prim.Native.Nat.{ℕ}
 use mathlib.Core.Path.{_≡_}
 use mathlib.Core.List.{List}
