@@ -1,3 +1,4 @@
 pub mod BuilderEnds
 pub mod RequestReadsBack
 pub mod One
+pub mod Demands

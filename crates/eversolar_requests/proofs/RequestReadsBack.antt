@@ -5,7 +5,7 @@ use mathlib.Core.Path.{_≡_, sym, subst}
 use mathlib.Core.Bool.{Bool, true, false}
 use mathlib.Core.Option.{some}
 use mathlib.Core.List.{List, [], _∷_, _++_}
-use lib.ListN.{length, take, length-append}
+use lib.ListN.{length, length-append}
 use lib.Dec.{T, leb}
 use lib.Pow.{areBytes}
 use borrow.Author.Tests.{le-ltb, leb-true, eqb-true}
@@ -13,29 +13,17 @@ use native.Mathlib.Omega.{arith}
 use Rattle.numbers.proofs.SameLists.{both}
 use Rattle.answers.specs.Written.{lengthOf, Writes}
 use Rattle.answers.specs.declared.Written.{Written}
-use Rattle.stream.specs.Event.{message, gives}
-use Rattle.stream.specs.Call.{lentLeast}
 use Rattle.stream.proofs.BytesOfParts.{bytes-cons, bytes-append}
 use Rattle.eversolar.specs.Wire.{Message, Takes, payloadMax, wire}
-use Rattle.eversolar.specs.Machine.{fresh}
-use Rattle.eversolar.specs.Reader.{IsStep}
 use Rattle.numbers.specs.Addresses.{lastAddress, isAddress, isSerial}
 use Rattle.eversolar_requests.specs.Requests.{request, askAll, giveAddress, askOne, IsAskAll, IsAskOne, IsGiveAddress}
-use Rattle.eversolar.specs.Demands.{eversolar}
+use Rattle.eversolar_requests.specs.Demands.{ReadsAs}
 use Rattle.eversolar_requests.specs.declared.ToAll.{ToAll}
 use Rattle.eversolar_requests.specs.declared.ToAll.the-variants.{OffLine, Reconnect, ReRegister}
 use Rattle.eversolar_requests.specs.declared.ToOne.{ToOne}
 use Rattle.eversolar_requests.specs.declared.ToOne.the-variants.{Remove, Normal, Identity, Settings, FixedSize}
-use Rattle.eversolar.specs.declared.reader.Step.{Step}
 use Rattle.eversolar_requests.proofs.BuilderEnds.{wrote}
 use Rattle.eversolar.proofs.Demands.{demanded}
-
--- ---- reading back is one step away: what a fresh reader tells of a request that was written, whatever follows it
-
-abbrev ReadsAs : Message → List ℕ → ℕ → Type 0
-ReadsAs m frame n =
-    (rest lent later : List ℕ) (r : Step) → lentLeast ≤ length lent → IsStep fresh (take n frame ++ rest) lent r later
-    → (eversolar .seen r later .told ≡ gives (message m)) × (eversolar .seen r later .used ≡ n)
 
 reads-as : (m : Message) (room frame : List ℕ) (w : Written) (n : ℕ) → Takes m → Writes false (wire m) room w frame → lengthOf w ≡ some n → ReadsAs m frame n
 reads-as m room frame w n t h e =
