@@ -48,14 +48,14 @@ stored-day = Day.stored-day
 
 -- what is known of a call by what is heard of it
 abbrev Known : Listing → List ℕ → Bool → Made → Heard → Type 0
-Known l s ended m More = (ended ≡ false) × (length s < leadLength + pieceMax) × (m .listing ≡ l)
+Known l s ended m More = (ended ≡ false) × (length s < leadLength + pieceMax) × (m .listing ≡ l) × (m .used ≡ 0) × (m .text ≡ [])
 Known l s ended m Took = (leadLength < m .used) × (m .used ≤ length s) × (l .packets < packetsMax) × (m .listing .packets ≡ l .packets + 1)
 Known l s ended m End = Unit {0}
 Known l s ended m (Refused why) = (m .listing ≡ l) × (m .used ≡ 0) × (m .text ≡ [])
 
 known : (l : Listing) (s : List ℕ) (ended : Bool) (m : Made) → Outcome l s ended m → Known l s ended m (m .heard)
 known l s ended m (refuses why) = (refl, refl, refl)
-known l s ended m (wants e h) = (e, h, refl)
+known l s ended m (wants e h) = (e, h, refl, refl, refl)
 known l s ended m (all-read n e) = tt
 known l s ended m (too-many n e) = tt
 known l s ended m (stops n a b c d) = tt
@@ -78,8 +78,10 @@ module _ (l : Listing) (input lent later : List ℕ) (ended : Bool) (r : Listed)
       let k = heard-as Took h in
       (omega (arith, used-is, k .0), omega (arith, used-is, k .1), k .2, ap (λ (v : Listed). v .listing .packets) (st .0) ∙ k .3)
 
-  more-is : r .heard ≡ More → (ended ≡ false) × (length input < leadLength + pieceMax) × (r .listing ≡ l)
-  more-is h = let k = heard-as More h in (k .0, k .1, ap (λ (v : Listed). v .listing) (st .0) ∙ k .2)
+  more-is : r .heard ≡ More → (ended ≡ false) × (length input < leadLength + pieceMax) × (r .listing ≡ l) × (r .used ≡ 0) × (r .wrote ≡ 0)
+  more-is h =
+      let k = heard-as More h in
+      (k .0, k .1, ap (λ (v : Listed). v .listing) (st .0) ∙ k .2, used-is ∙ k .3, ap (λ (v : Listed). v .wrote) (st .0) ∙ ap length (k .4))
 
 pub gets-on : Specs.GetsOn
 gets-on l input lent later ended r st = (more-is l input lent later ended r st, took-is l input lent later ended r st)

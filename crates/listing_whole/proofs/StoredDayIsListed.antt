@@ -10,6 +10,7 @@ use lib.Seq.{take-append-seam, drop-append-seam, drop-drop}
 use lib.Dec.{T, eqb}
 use lib.Pow.{areBytes}
 use native.Mathlib.Omega.{arith}
+use borrow.Author.Tests.{ne-eqb}
 use Rattle.answers.specs.Answer.{Answer, answer, number}
 use Rattle.stream.specs.Event.{Event, message}
 use Rattle.stream.specs.Written.{written, Each}
@@ -21,7 +22,7 @@ use Rattle.uplink.proofs.Demands.{Put, put}
 use Rattle.ports.specs.Ports.{Seat, seats, sumOver, rowOf}
 use Rattle.ports.proofs.EveryRow.{factsOf, OnSeat}
 use Rattle.ports.proofs.TableLaws.{sums-alike, sums-to-none}
-use Rattle.listing_text.specs.Lines.{Shown, titleLine, endLine}
+use Rattle.listing_text.specs.Lines.{Shown, titleLine}
 use Rattle.listing.specs.Entries.{Entry, entriesOn, linesOf, isMessage, isDamage, messagesIn, damagesIn, lastLines}
 use Rattle.listing.specs.Steps.{Packet, packetIn, packetsMax}
 use Rattle.listing_whole.specs.Listing.{Cut, before, byPacket, cut, found, joined, brings, entries, listingOf}
@@ -77,6 +78,11 @@ packed-on-seats ps qs bytes (and-one {ps = rs} {bytes = rest} p lent later w k w
     let at = carried-seat (p .port) (both (known (versionOf (p .port))) (counted (length (p .piece))) (t .taken) .0) in
     on-seats (p .port) at (brings ps p) (entries (ps ++ (p ∷ [])) rs) (packed-on-seats (ps ++ (p ∷ [])) rs rest more)
 
+-- so no other port has one
+on-no-other : (es : List Entry) → OnSeats es → (port : ℕ) → ((seat : Seat) → rowOf seat .port ≡ port → ⊥) → onPort port es ≡ []
+on-no-other [] o port other = refl
+on-no-other (e ∷ es) o port other = rw (ne-eqb (e .port) port (λ q. other (o .0 .0) (o .0 .1 ∙ q))) (on-no-other es (o .1) port other)
+
 -- ---- each line's messages
 
 module _ (ps : List Packet) (ms : Messages) (takes-all : (seat : Seat) → Each (rowOf seat .family .Takes) (ms seat))
@@ -102,7 +108,9 @@ stored-day ps input packed few ms takes-all sent =
     record {
       listed = es;
       each = each;
+      only = on-no-other es on;
+      messages = counted;
+      damages = whole;
       text =
-          ap (λ (k : Cut). titleLine ++ (linesOf (entries [] (k .packets)) ++ lastLines (k .stop) (messagesIn (entries [] (k .packets))) (damagesIn (entries [] (k .packets))))) (cut-packed ps input packed packetsMax few)
-          ∙ ap₂ (λ (m d : ℕ). titleLine ++ (linesOf es ++ endLine m d)) counted whole;
+          ap (λ (k : Cut). titleLine ++ (linesOf (entries [] (k .packets)) ++ lastLines (k .stop) (messagesIn (entries [] (k .packets))) (damagesIn (entries [] (k .packets))))) (cut-packed ps input packed packetsMax few);
     }

@@ -16,7 +16,7 @@ use Rattle.uplink.specs.Packet as Uplink
 use Rattle.uplink.specs.Packet.{leadLength, pieceMax}
 use Rattle.ports.specs.Ports.{Seat, seats, sumOver, rowOf}
 use Rattle.listing_text.specs.Lines.{Shown, titleLine, endLine}
-use Rattle.listing.specs.Entries.{Entry, linesOf}
+use Rattle.listing.specs.Entries.{Entry, linesOf, messagesIn, damagesIn}
 use Rattle.listing.specs.Steps.{Packet, packetsMax}
 use Rattle.listing_whole.specs.Listing.{found, joined, entries, listingOf}
 use Rattle.listing.specs.Steps.{IsFresh, IsStep, roomLeast}
@@ -52,7 +52,7 @@ Makes = (input text : List ℕ) (l : Listing) → T (areBytes input) → IsFresh
 abbrev pub GetsOn : Type 0
 GetsOn =
     (l : Listing) (input lent later : List ℕ) (ended : Bool) (r : Listed) → IsStep l input ended lent r later
-    → (r .heard ≡ More → (ended ≡ false) × (length input < leadLength + pieceMax) × (r .listing ≡ l))
+    → (r .heard ≡ More → (ended ≡ false) × (length input < leadLength + pieceMax) × (r .listing ≡ l) × (r .used ≡ 0) × (r .wrote ≡ 0))
     × (r .heard ≡ Took → (leadLength < r .used) × (r .used ≤ length input) × (l .packets < packetsMax) × (r .listing .packets ≡ l .packets + 1))
 
 -- a listing that calls lead to from a fresh one
@@ -99,11 +99,14 @@ pub data Packed : List Packet → List ℕ → Type 0 where
 abbrev pub Messages : Type 0
 Messages = (seat : Seat) → List (rowOf seat .family .Message)
 
--- an input lists as exactly these messages, those of each line on its port and in order, and no damage
+-- an input lists as exactly these messages, those of each line on its port and in order, nothing on any other port, and no damage; and the end line counts them
 pub record ListsAs (input : List ℕ) (ms : Messages) : Type 0 where
   pub listed : List Entry
   pub each : (seat : Seat) → onPort (rowOf seat .port) listed ≡ map (λ m. message (rowOf seat .show m)) (ms seat)
-  pub text : listingOf input ≡ titleLine ++ (linesOf listed ++ endLine (sumOver seats (λ seat. length (ms seat))) 0)
+  pub only : (port : ℕ) → ((seat : Seat) → rowOf seat .port ≡ port → ⊥) → onPort port listed ≡ []
+  pub messages : messagesIn listed ≡ sumOver seats (λ seat. length (ms seat))
+  pub damages : damagesIn listed ≡ 0
+  pub text : listingOf input ≡ titleLine ++ (linesOf listed ++ endLine (messagesIn listed) (damagesIn listed))
 
 -- THE STORED DAY: messages written on each port, packed by the packet writer cut anywhere and in any order of the ports, list as exactly those messages
 abbrev pub StoredDay : Type 0
