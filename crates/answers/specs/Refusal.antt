@@ -20,9 +20,13 @@ number NotForThisCall = 17
 number Spoilt = 18
 number TooManyPackets = 19
 
--- With a refusal every other number returned is 0: of a call that returns n others
+-- WHAT A CALL TELLS WITH A REFUSAL: its number, and nothing of what it would return else. `tells` puts the two together
+abbrev pub refusedAs : {A B : Type 0} → (ℕ → A → B) → A → Refusal → B
+refusedAs tells nothing why = tells (number why) nothing
+
+-- every other number returned is 0: of a call that returns n others
 abbrev pub refused : ℕ → Refusal → Answer
-refused n why = answer (number why) (replicate n 0)
+refused n = refusedAs answer (replicate n 0)
 
 -- what `Refusal::number` promises
 abbrev pub IsRefusalNumber : Refusal → ℕ → Type 0

@@ -7,8 +7,7 @@ use mathlib.Core.List.{List, [], _∷_}
 use lib.ListN.{length, getD}
 use lib.Dec.{eqb, leb}
 use Rattle.answers.specs.Answer.{Answer, answer, need}
-use Rattle.answers.specs.Refusal as Refusal
-use Rattle.answers.specs.declared.Refusal.{Refusal}
+use Rattle.answers.specs.Refusal.{refusedAs, refused}
 use Rattle.answers.specs.declared.Refusal.the-variants.{WrongAddressOrExponentTooLow, NotForThisCall}
 use Rattle.comlynx_meaning.specs.declared.Meaning.{Meaning}
 use Rattle.comlynx_meaning.specs.declared.Meaning.the-variants.{Request, Reply, TransmissionError, ApplicationError, Refused}
@@ -42,31 +41,28 @@ pub data Said : Type 0 where
   transmissionError : ℕ → ℕ → Said
   applicationError : ℕ → ℕ → Said
 
--- the answer number, and with 0 what is meant
+-- the answer number, and with 0 what is meant; with a refusal nothing is
 pub data Told : Type 0 where
   tells : ℕ → Option Said → Told
-
-abbrev pub refused : Refusal → Told
-refused why = tells (Refusal.number why) none
 
 abbrev pub told : Meaning → Told
 told (Request id) = tells 0 (some (request id))
 told (Reply id) = tells 0 (some (reply id))
 told (TransmissionError id code) = tells 0 (some (transmissionError id code))
 told (ApplicationError id code) = tells 0 (some (applicationError id code))
-told (Refused why) = refused why
+told (Refused why) = refusedAs tells none why
 
 -- an error reply has one data byte, its code, else 17
 abbrev pub coded : (ℕ → Said) → List ℕ → Told
 coded error bs =
-    need (eqb (length bs) 1) (refused NotForThisCall)
+    need (eqb (length bs) 1) (refusedAs tells none NotForThisCall)
     (tells 0 (some (error (getD bs 0 0))))
 
 -- and 17 for an error bit in a request, and for both error bits
 unfoldable pub meant : ℕ → List ℕ → Told
 meant kind bs =
-    need (isReply kind || not (isError kind)) (refused NotForThisCall)
-    (need (not (isTransmission kind && isApplication kind)) (refused NotForThisCall)
+    need (isReply kind || not (isError kind)) (refusedAs tells none NotForThisCall)
+    (need (not (isTransmission kind && isApplication kind)) (refusedAs tells none NotForThisCall)
     (cond (isTransmission kind) (coded (transmissionError (idOf kind)) bs)
     (cond (isApplication kind) (coded (applicationError (idOf kind)) bs)
     (cond (isReply kind) (tells 0 (some (reply (idOf kind))))
@@ -88,11 +84,11 @@ IsAddress word r = r ≡ addressOf word
 -- and back; a network or subnet that has more bits is 16
 abbrev pub toldWord : Addressed → Answer
 toldWord (Word word) = answer 0 (word ∷ [])
-toldWord (NoWord why) = Refusal.refused 1 why
+toldWord (NoWord why) = refused 1 why
 
 unfoldable pub wordOf : Address → Answer
 wordOf a =
-    need (leb (a .network) 15 && leb (a .subnet) 15) (Refusal.refused 1 WrongAddressOrExponentTooLow)
+    need (leb (a .network) 15 && leb (a .subnet) 15) (refused 1 WrongAddressOrExponentTooLow)
     (answer 0 ((a .network * 4096 + a .subnet * 256 + a .node) ∷ []))
 
 -- what `word_of` promises

@@ -6,7 +6,7 @@ use native.Mathlib.Omega.{arith}
 use mathlib.Core.Path.{_≡_, refl, sym, _∙_, ap, subst}
 use mathlib.Core.Bool.{Bool, true, false, _&&_}
 use mathlib.Core.List.{List}
-use mathlib.Core.Option.{Option, some}
+use mathlib.Core.Option.{Option, none, some}
 use lib.Dec.{lit<, eqb}
 use lib.Pow.{pow-pos, pow-add}
 use lib.IntN.{ℤ, pos, negsuc, negℤ, natAbs, _*ℤ_}
@@ -20,6 +20,7 @@ use borrow.Author.Tests.{ne-eqb, ltb-false}
 use Rattle.answers.specs.Answer.{need}
 use Rattle.answers.proofs.NumbersHaveCases.{refusal-above}
 use Rattle.answers.specs.Refusal as Refusal
+use Rattle.answers.specs.Refusal.{refusedAs}
 use Rattle.answers.specs.declared.Refusal.{Refusal}
 use Rattle.answers.specs.declared.Refusal.the-variants.{NotForThisCall}
 use Rattle.fronius_meaning.specs.Measured as Measured
@@ -107,12 +108,12 @@ from-thousandths w (negsuc n) h g l =
     ∙ round-same binary64 false w (10 ^ suc n) (w * 10 ^ tensOf (negsuc n)) 1_000 (one-le-pow (suc n) 10 (lit< tt)) (lit< tt)
     (sym (mul-assoc w (10 ^ tensOf (negsuc n)) (10 ^ suc n) ∙ ap (λ (m : ℕ). w * m) (thousand n i)))
 
-measured-tells : (t : ℤ) (why : Refusal) → Measured.tells 0 t ≡ Measured.refused why → ⊥
+measured-tells : (t : ℤ) (why : Refusal) → Measured.tells 0 t ≡ refusedAs Measured.tells (pos 0) why → ⊥
 measured-tells t why e =
     let z : 0 ≡ Refusal.number why = cc in
     omega (arith, refusal-above why)
 
-reading-tells : (r : Reading) (why : Refusal) → Reading.tells 0 (some r) ≡ Reading.refused why → ⊥
+reading-tells : (r : Reading) (why : Refusal) → Reading.tells 0 (some r) ≡ refusedAs Reading.tells none why → ⊥
 reading-tells r why e =
     let z : 0 ≡ Refusal.number why = cc in
     omega (arith, refusal-above why)
@@ -122,9 +123,9 @@ told-number e = cc
 
 -- a reading that was given is the one of the rule
 given-one : (s : List ℕ) (r : Reading) (x : Option Reading) (asked : Bool)
-    → Reading.tells 0 (some r) ≡ need asked (Reading.refused NotForThisCall) (tested s Reading.refused (Reading.tells 0 x)) → x ≡ some r
+    → Reading.tells 0 (some r) ≡ need asked (refusedAs Reading.tells none NotForThisCall) (tested s (refusedAs Reading.tells none) (Reading.tells 0 x)) → x ≡ some r
 given-one s r x true h =
-    let p : Reading.tells 0 (some r) ≡ Reading.tells 0 x = no-refusal s Reading.refused (Reading.tells 0 x) (Reading.tells 0 (some r)) (reading-tells r) h .0 in
+    let p : Reading.tells 0 (some r) ≡ Reading.tells 0 x = no-refusal s (refusedAs Reading.tells none) (Reading.tells 0 x) (Reading.tells 0 (some r)) (reading-tells r) h .0 in
     cc
 given-one s r x false h = absurd (reading-tells r NotForThisCall h)
 
@@ -155,7 +156,7 @@ one-number device command s r t b h k =
     let w = wordOf s in
     let e = exponentOf (exponentByte s) in
     let i : w < 65536 = omega (arith, b 0, b 1) in
-    let p = no-refusal s Measured.refused (Measured.tells 0 (inThousandths (pos w) e)) (Measured.tells 0 t) (measured-tells t) k in
+    let p = no-refusal s (refusedAs Measured.tells (pos 0)) (Measured.tells 0 (inThousandths (pos w) e)) (Measured.tells 0 t) (measured-tells t) k in
     let q : t ≡ inThousandths (pos w) e = told-number (p .0) in
     let x : doubleIn r ≡ doubleOf w e =
     carries (isPower command) (isEnergy command) (isCurrent command) (isVoltage command) (isFrequency command) (isMinutes command) (isMoney command)

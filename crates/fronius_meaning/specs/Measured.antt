@@ -8,7 +8,7 @@ use lib.IntN.{ℤ, pos, negℤ, natAbs, _+ℤ_, _-ℤ_, _*ℤ_}
 use lib.ListN.{length, getD}
 use lib.Signed.{ltZ}
 use Rattle.answers.specs.Answer.{need}
-use Rattle.answers.specs.Refusal as Refusal
+use Rattle.answers.specs.Refusal.{refusedAs}
 use Rattle.answers.specs.declared.Refusal.{Refusal}
 use Rattle.answers.specs.declared.Refusal.the-variants.{ExponentTooHigh, WrongAddressOrExponentTooLow, NotForThisCall}
 use Rattle.fronius_meaning.specs.declared.measured.Measured.{Measured}
@@ -63,16 +63,13 @@ tested s refused given =
 pub data Told : Type 0 where
   tells : ℕ → ℤ → Told
 
-abbrev pub refused : Refusal → Told
-refused why = tells (Refusal.number why) (pos 0)
-
 abbrev pub told : Measured → Told
 told (Thousandths t) = tells 0 t
-told (Refused why) = refused why
+told (Refused why) = refusedAs tells (pos 0) why
 
 unfoldable pub thousandthsOf : List ℕ → Bool → Told
 thousandthsOf s signed =
-    tested s refused (tells 0 (inThousandths (valueOf signed (wordOf s)) (exponentOf (exponentByte s))))
+    tested s (refusedAs tells (pos 0)) (tells 0 (inThousandths (valueOf signed (wordOf s)) (exponentOf (exponentByte s))))
 
 -- what `thousandths` promises
 abbrev pub IsThousandths : List ℕ → Bool → Measured → Type 0

@@ -8,8 +8,7 @@ use lib.Dec.{leb, eqb}
 use lib.IntN.{ℤ, pos, negsuc}
 use lib.Ieee.{Float, binary64, ofInt, div}
 use Rattle.answers.specs.Answer.{need}
-use Rattle.answers.specs.Refusal as Refusal
-use Rattle.answers.specs.declared.Refusal.{Refusal}
+use Rattle.answers.specs.Refusal.{refusedAs}
 use Rattle.answers.specs.declared.Refusal.the-variants.{NotForThisCall}
 use Rattle.fronius_meaning.specs.Measured.{wordOf, exponentByte, exponentOf, tested}
 use Rattle.fronius_meaning.specs.declared.reading.Reading.{Reading}
@@ -80,20 +79,17 @@ doubleOf word (negsuc n) = div binary64 (ofInt binary64 (pos word)) (ofInt binar
 pub data Told : Type 0 where
   tells : ℕ → Option Reading → Told
 
-abbrev pub refused : Refusal → Told
-refused why = tells (Refusal.number why) none
-
 abbrev pub told : Read → Told
 told (Value r) = tells 0 (some r)
-told (Refused why) = refused why
+told (Refused why) = refusedAs tells none why
 
 -- Another command, or a device other than 01, is 17. Tests: 17, then 15 or 16.
 unfoldable pub readingOf : ℕ → ℕ → List ℕ → Told
 unfolding kindOf
 readingOf device command s =
     let kind = kindOf command in
-    need (eqb device 1 && isKind kind) (refused NotForThisCall)
-    (tested s refused (tells 0 (carried kind (doubleOf (wordOf s) (exponentOf (exponentByte s))))))
+    need (eqb device 1 && isKind kind) (refusedAs tells none NotForThisCall)
+    (tested s (refusedAs tells none) (tells 0 (carried kind (doubleOf (wordOf s) (exponentOf (exponentByte s))))))
 
 -- what `reading_of` promises
 abbrev pub IsReading : ℕ → ℕ → List ℕ → Read → Type 0

@@ -1,12 +1,13 @@
 use Prim.Native.Nat.{ℕ}
 use mathlib.Core.Path.{_≡_, refl}
 use mathlib.Core.Bool.{Bool, true, false, cond, not, _&&_, _||_}
-use mathlib.Core.Option.{some}
+use mathlib.Core.Option.{none, some}
 use mathlib.Core.List.{List}
 use borrow.Author.Needs.{needs}
 use Rattle.answers.specs.Answer.{need}
 use Rattle.answers.specs.declared.Refusal.the-variants.{NotForThisCall}
-use Rattle.comlynx_meaning.specs.Meaning.{Said, Told, tells, refused, request, reply, transmissionError, applicationError, idOf, isReply, isTransmission, isApplication, coded, meant}
+use Rattle.answers.specs.Refusal.{refusedAs}
+use Rattle.comlynx_meaning.specs.Meaning.{Said, Told, tells, request, reply, transmissionError, applicationError, idOf, isReply, isTransmission, isApplication, coded, meant}
 use Rattle.comlynx_meaning.proofs.meaning_of.Statement.{statement}
 use Rattle.comlynx_meaning.proofs.meaning_of.Tie as tie
 
@@ -25,14 +26,14 @@ in-order false false false bs u p q x y = refl
 
 meant-in-order : (c : tie.Start) → let kind = c .args .kind in let bs = c .args .payload .now in
     meant kind bs
-    ≡ cond ((isTransmission kind && isApplication kind) || ((isTransmission kind || isApplication kind) && not (isReply kind))) (refused NotForThisCall)
+    ≡ cond ((isTransmission kind && isApplication kind) || ((isTransmission kind || isApplication kind) && not (isReply kind))) (refusedAs tells none NotForThisCall)
     (cond (isTransmission kind || isApplication kind)
     (coded (cond (isTransmission kind) (transmissionError (idOf kind)) (applicationError (idOf kind))) bs)
     (cond (isReply kind) (tells 0 (some (reply (idOf kind)))) (tells 0 (some (request (idOf kind))))))
 unfolding meant
 meant-in-order c =
     let kind = c .args .kind in
-    in-order (isReply kind) (isTransmission kind) (isApplication kind) (c .args .payload .now) (refused NotForThisCall)
+    in-order (isReply kind) (isTransmission kind) (isApplication kind) (c .args .payload .now) (refusedAs tells none NotForThisCall)
     (tells 0 (some (reply (idOf kind)))) (tells 0 (some (request (idOf kind))))
     (transmissionError (idOf kind)) (applicationError (idOf kind))
 

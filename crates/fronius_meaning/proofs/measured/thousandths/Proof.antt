@@ -9,7 +9,8 @@ use mir.Syntax.{w64}
 use mir.ValLaws.{toZ-ofZ}
 use denote.Ref.{now}
 use borrow.Author.Needs.{needs, sfits-of}
-use Rattle.fronius_meaning.specs.Measured.{exponentByte, exponentOf, tooGreat, tooSmall, valueOf, tells, refused, thousandthsOf}
+use Rattle.answers.specs.Refusal.{refusedAs}
+use Rattle.fronius_meaning.specs.Measured.{exponentByte, exponentOf, tooGreat, tooSmall, valueOf, tells, thousandthsOf}
 use Rattle.fronius_meaning.proofs.TestsInOrder.{not-three, too-great, too-small, in-range}
 use Rattle.fronius_meaning.proofs.measured.thousandths.Statement.{statement}
 use Rattle.fronius_meaning.proofs.measured.thousandths.Tie as tie
@@ -27,7 +28,7 @@ made e f g = rw (e, f, g)
 
 returns : tie.Need-returns
 unfolding thousandthsOf
-returns c = sym (not-three (now (c .before .before .args .payload)) refused _ (λ e. omega arith))
+returns c = sym (not-three (now (c .before .before .args .payload)) (refusedAs tells (pos 0)) _ (λ e. omega arith))
 
 shared-slice-read-exponent : tie.Need-shared-slice-read-exponent
 shared-slice-read-exponent c = search needs
@@ -39,7 +40,7 @@ returns-2 : tie.Need-returns-2
 unfolding thousandthsOf
 returns-2 c =
     let s = now (c .before .before .before .before .before .args .payload) in
-    sym (too-great s refused _ (omega arith) (sym (c .before .too-great .ensures) ∙ c .if2 .taken))
+    sym (too-great s (refusedAs tells (pos 0)) _ (omega arith) (sym (c .before .too-great .ensures) ∙ c .if2 .taken))
 
 too-small-requires : tie.Need-too-small-requires
 too-small-requires c κs = search needs
@@ -48,7 +49,7 @@ returns-3 : tie.Need-returns-3
 unfolding thousandthsOf
 returns-3 c =
     let s = now (c .before .before .before .before .before .before .before .args .payload) in
-    sym (too-small s refused _ (omega arith) (not-great (c .before .before)) (sym (c .before .too-small .ensures) ∙ c .if3 .taken))
+    sym (too-small s (refusedAs tells (pos 0)) _ (omega arith) (not-great (c .before .before)) (sym (c .before .too-small .ensures) ∙ c .if3 .taken))
 
 shared-slice-read-word : tie.Need-shared-slice-read-word
 shared-slice-read-word c = search needs
@@ -80,7 +81,7 @@ returns-4 c =
     made (toZ-ofZ w64 _ (sfits-of (c .times-ten-to .ok)) ∙ c .times-ten-to .ensures)
     (toZ-ofZ w64 _ (sfits-of (v .value .ok)) ∙ v .value .ensures .0 ∙ ap (valueOf (a .signed)) (v .before .word .ensures))
     (t .tens .ensures .0)
-    ∙ sym (in-range (now (a .payload)) refused _ (omega arith) (not-great (i .before .before)) (not-small i))
+    ∙ sym (in-range (now (a .payload)) (refusedAs tells (pos 0)) _ (omega arith) (not-great (i .before .before)) (not-small i))
 
 pub thousandths-spec : {M : Type 1} → statement M
 thousandths-spec =
