@@ -1,4 +1,4 @@
--- What a judged stretch tells and delivers.
+-- What an answer tells by its number, and what a judged stretch tells and delivers.
 -- Assumes nothing.
 use Prim.Native.Nat.{ℕ, _+_, _-_, _*_, _≤_, _<_}
 use mathlib.Core.Path.{_≡_, refl, sym, ap, _∙_}
@@ -16,17 +16,25 @@ use Rattle.comlynx_checksum.specs.declared.Sent.{Sent}
 use Rattle.comlynx_checksum.proofs.SentAgrees.{agrees-by-bytes, sent-low, sent-high}
 use Rattle.stream.proofs.ListLaws.{drop-take}
 use Rattle.stream.specs.Event.{message, damage, Told, gives}
+use Rattle.stream.specs.Event as Event
 use Rattle.stream.specs.Call.{retold, delivered}
 use Rattle.stream.proofs.HeldIsDelivered.{Delivers, delivers-held, delivers-told}
 use Rattle.comlynx.specs.Wire.{Message, payloadMax, bodyLeast, bodyMax, messageOf}
 use Rattle.comlynx.specs.Rules.{sized, begins, judged}
 use Rattle.comlynx.specs.Machine.{closed}
-use Rattle.comlynx.specs.Reader.{told, header}
+use Rattle.comlynx.specs.Reader.{number, told, header}
 use Rattle.comlynx.specs.Inside.{due, JudgedAs, Judges, Small, given}
 use Rattle.comlynx.specs.declared.reader.Header.{Header}
 use Rattle.comlynx.specs.declared.reader.Answer.{Answer}
-use Rattle.comlynx.specs.declared.reader.Answer.the-variants.{Message as Read, Damaged}
+use Rattle.comlynx.specs.declared.reader.Answer.the-variants.{Done, Message as Read, Damaged, Refused}
 use Rattle.comlynx.proofs.StageRanges.{false-true}
+
+-- an answer's number is that of what it tells
+pub number-told : (a : Answer) → number a ≡ Event.number (told a)
+number-told Done = refl
+number-told (Read h) = refl
+number-told (Damaged what) = refl
+number-told (Refused why) = refl
 
 -- the header that is read off the held bytes
 abbrev pub heldHeader : ℕ → List ℕ → Header

@@ -44,7 +44,7 @@ refused-12 Done h = absurd (omega arith)
 refused-12 (ComLynx m) h = absurd (omega arith)
 refused-12 (Eversolar m) h = absurd (omega arith)
 refused-12 (Fronius m) h = absurd (omega arith)
-refused-12 (Damaged what) h = let twelve : 0 ≡ 1 = rw h at damages .once what in absurd (omega arith)
+refused-12 (Damaged what) h = let twelve : _≡_ {A = ℕ} 0 1 = rw h at (damages .once what) in absurd (omega arith)
 refused-12 (Refused why) h = (why, refl)
 
 -- ---- on any port of the table
@@ -58,7 +58,7 @@ module _ (seat : Seat) where
 
   as-kept : (ports : Ports) (piece lent later : List ℕ) (r : Step) (why : Refusal) → StepsOn (some seat) ports piece lent r later
       → r .answer ≡ Refused why → (r .ports ≡ ports) × (r .used ≡ 0) × (later ≡ lent)
-  as-kept ports piece lent later r why (s, step, e) h =
+  as-kept ports piece lent later r why (s, step, e, n) h =
       let tells = factsOf seat .refusal s later why (ap (λ (v : Step). v .answer) (sym e) ∙ h) in
       let k = Stream.kept F facts .2 (rowOf seat .get ports) piece lent later s _ step tells in
       let same : rowOf seat .reader s ≡ rowOf seat .get ports = sym (factsOf seat .reader s later) ∙ k .0 in (
@@ -68,7 +68,7 @@ module _ (seat : Seat) where
       )
 
   as-not-12 : (ports : Ports) (piece lent later : List ℕ) (r : Step) → StepsOn (some seat) ports piece lent r later → number (r .answer) ≡ 12 → ⊥
-  as-not-12 ports piece lent later r (s, step, e) h =
+  as-not-12 ports piece lent later r (s, step, e, n) h =
       let at = rowOf seat .get ports in
       let own : number (rowOf seat .answer s) ≡ 12 = ap (λ (v : Step). number (v .answer)) (sym e) ∙ h in
       let refusal = refused-12 (rowOf seat .answer s) own in
@@ -79,8 +79,8 @@ module _ (seat : Seat) where
   -- a call on another port, or on none
   on-other : (on : Option Seat) (ports : Ports) (piece lent later : List ℕ) (r : Step) → StepsOn on ports piece lent r later
       → (on ≡ some seat → ⊥) → rowOf seat .get (r .ports) ≡ rowOf seat .get ports
-  on-other none ports piece lent later r (e, same) n = ap (λ (v : Step). rowOf seat .get (v .ports)) e
-  on-other (some other) ports piece lent later r (s, step, e) n =
+  on-other none ports piece lent later r (e, same, k) n = ap (λ (v : Step). rowOf seat .get (v .ports)) e
+  on-other (some other) ports piece lent later r (s, step, e, k) n =
       ap (λ (v : Step). rowOf seat .get (v .ports)) e ∙ factsOf other .others seat ports (rowOf other .reader s) (λ same. n (ap some same))
 
   -- the calls on it among cs, from these readers

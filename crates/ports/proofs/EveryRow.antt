@@ -35,7 +35,7 @@ use Rattle.fronius.specs.declared.reader.Answer as FroniusAnswer
 use Rattle.fronius.specs.declared.reader.Answer.the-variants as OfFronius
 use Rattle.fronius.proofs.FamilyFacts as FroniusFacts
 use Rattle.fronius.proofs.One as FroniusOne
-use Rattle.ports.specs.Ports.{Seat, comlynxSeat, eversolarSeat, froniusSeat, comlynxAnswer, eversolarAnswer, froniusAnswer, seats, portMost, sumOver, rowOf, seatAt}
+use Rattle.ports.specs.Ports.{Seat, comlynxSeat, eversolarSeat, froniusSeat, comlynxAnswer, eversolarAnswer, froniusAnswer, number as answerNumber, seats, portMost, sumOver, rowOf, seatAt}
 use Rattle.ports.specs.declared.Ports.{Ports}
 use Rattle.ports.specs.declared.Answer.the-variants.{Refused}
 
@@ -68,10 +68,17 @@ pub record RowFacts (seat : Seat) : Type 1 where
   -- what its result holds is what a host sees
   pub reader : (r : rowOf seat .family .Result) (later : List ℕ) → rowOf seat .family .seen r later .state ≡ rowOf seat .reader r
   pub used : (r : rowOf seat .family .Result) (later : List ℕ) → rowOf seat .family .seen r later .used ≡ rowOf seat .used r
+  pub number : (r : rowOf seat .family .Result) (later : List ℕ) → answerNumber (rowOf seat .answer r) ≡ rowOf seat .family .seen r later .number
   pub refusal : (r : rowOf seat .family .Result) (later : List ℕ) (why : Refusal) → rowOf seat .answer r ≡ Refused why
       → rowOf seat .family .seen r later .told ≡ refuses (refusalNumber why)
 
 -- ---- ComLynx
+
+comlynx-number : (a : ComlynxAnswer.Answer) → answerNumber (comlynxAnswer a) ≡ ComlynxReader.number a
+comlynx-number OfComlynx.Done = refl
+comlynx-number (OfComlynx.Message h) = refl
+comlynx-number (OfComlynx.Damaged what) = refl
+comlynx-number (OfComlynx.Refused why) = refl
 
 comlynx-refusal : (a : ComlynxAnswer.Answer) (later : List ℕ) (why : Refusal) → comlynxAnswer a ≡ Refused why
     → retold (λ h. ComlynxReader.join h later) (ComlynxReader.told a) ≡ refuses (refusalNumber why)
@@ -96,10 +103,17 @@ comlynx-row = record {
   one = ComlynxOne.step-one;
   reader = λ r later. refl;
   used = λ r later. refl;
+  number = λ r later. comlynx-number (r .answer);
   refusal = λ r. comlynx-refusal (r .answer);
 }
 
 -- ---- Eversolar
+
+eversolar-number : (a : EversolarAnswer.Answer) → answerNumber (eversolarAnswer a) ≡ EversolarReader.number a
+eversolar-number OfEversolar.Done = refl
+eversolar-number (OfEversolar.Message h) = refl
+eversolar-number (OfEversolar.Damaged what) = refl
+eversolar-number (OfEversolar.Refused why) = refl
 
 eversolar-refusal : (a : EversolarAnswer.Answer) (later : List ℕ) (why : Refusal) → eversolarAnswer a ≡ Refused why
     → retold (λ h. EversolarReader.join h later) (EversolarReader.told a) ≡ refuses (refusalNumber why)
@@ -124,10 +138,17 @@ eversolar-row = record {
   one = EversolarOne.step-one;
   reader = λ r later. refl;
   used = λ r later. refl;
+  number = λ r later. eversolar-number (r .answer);
   refusal = λ r. eversolar-refusal (r .answer);
 }
 
 -- ---- Fronius
+
+fronius-number : (a : FroniusAnswer.Answer) → answerNumber (froniusAnswer a) ≡ FroniusReader.number a
+fronius-number OfFronius.Done = refl
+fronius-number (OfFronius.Message h) = refl
+fronius-number (OfFronius.Damaged what) = refl
+fronius-number (OfFronius.Refused why) = refl
 
 fronius-refusal : (a : FroniusAnswer.Answer) (later : List ℕ) (why : Refusal) → froniusAnswer a ≡ Refused why
     → retold (λ h. FroniusReader.join h later) (FroniusReader.told a) ≡ refuses (refusalNumber why)
@@ -152,6 +173,7 @@ fronius-row = record {
   one = FroniusOne.step-one;
   reader = λ r later. refl;
   used = λ r later. refl;
+  number = λ r later. fronius-number (r .answer);
   refusal = λ r. fronius-refusal (r .answer);
 }
 

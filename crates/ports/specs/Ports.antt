@@ -54,7 +54,7 @@ froniusAnswer (OfFronius.Message h) = Fronius h
 froniusAnswer (OfFronius.Damaged what) = Damaged what
 froniusAnswer (OfFronius.Refused why) = Refused why
 
--- document 01's number of each
+-- document 01's table of answers, case by case: the number of each
 abbrev pub number : Answer → ℕ
 number Done = 0
 number (ComLynx h) = 1
@@ -159,11 +159,15 @@ stepped seat ports s = record { ports = rowOf seat .put ports (rowOf seat .reade
 abbrev pub refused : Ports → Step
 refused ports = record { ports = ports; answer = Refused WrongPortOrCount; used = 0 }
 
--- a call on a port: there is a call of its reader that its family's promise allows, and this is the result of that; on another than these: refused
+-- a call on a port: there is a call of its reader that its family's promise allows, this is the result of that, and its answer has the same number;
+-- on another than these: refused
 abbrev pub StepsOn : Option Seat → Ports → List ℕ → List ℕ → Step → List ℕ → Type 0
-StepsOn none ports piece lent r later = (r ≡ refused ports) × (later ≡ lent)
+StepsOn none ports piece lent r later = (r ≡ refused ports) × (later ≡ lent) × (number (r .answer) ≡ 12)
 StepsOn (some seat) ports piece lent r later =
-    (s : rowOf seat .family .Result) × rowOf seat .family .Steps (rowOf seat .get ports) piece lent s later × (r ≡ stepped seat ports s)
+    (s : rowOf seat .family .Result)
+    × rowOf seat .family .Steps (rowOf seat .get ports) piece lent s later
+    × (r ≡ stepped seat ports s)
+    × (number (r .answer) ≡ rowOf seat .family .seen s later .number)
 
 -- what `Ports::step` promises, of the readers, port, piece, lent buffer, result and the buffer afterwards
 abbrev pub IsStep : Ports → ℕ → List ℕ → List ℕ → Step → List ℕ → Type 0

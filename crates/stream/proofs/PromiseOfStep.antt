@@ -6,14 +6,28 @@ use mathlib.Core.Bool.{Bool, true, false}
 use mathlib.Core.List.{List, _++_}
 use lib.ListN.{length, drop}
 use borrow.Author.Tests.{lt-ltb, le-ltb}
-use Rattle.stream.specs.Event.{Event, message, damage, Told, done, gives, refuses, outcome}
+use Rattle.stream.specs.Event.{Event, message, damage, Told, done, gives, refuses, number, outcome}
 use Rattle.stream.specs.Pieces.{Moved, Called, scan}
-use Rattle.stream.specs.Call.{Seen, lentLeast, refused, answered, called, delivered, retold, retells, Steps, seenBy}
+use Rattle.stream.specs.Call.{Seen, lentLeast, numbered, refused, answered, called, delivered, retold, retells, Steps, seenBy}
 
 -- a state in range, and room: the scan of the piece
 pub in-room : {S M : Type 0} (next : S → ℕ → Moved S (Event M)) (inRange : S → Bool) (s : S) (piece lent : List ℕ) → inRange s ≡ true → lentLeast ≤ length lent
     → called next inRange s piece lent ≡ answered (scan next s piece)
 in-room next inRange s piece lent r h = rw (r, le-ltb (length lent) lentLeast h)
+
+-- a header for a message leaves the number as it is
+number-retold : {M H : Type 0} (f : M → H) (t : Told M) → number (retold f t) ≡ number t
+number-retold f done = refl
+number-retold f (gives (message m)) = refl
+number-retold f (gives (damage n)) = refl
+number-retold f (refuses n) = refl
+
+-- an answer whose number is that of what it tells, and which tells t, shows t under its number
+pub shows : {S M H : Type 0} (header : M → H) (s : S) (n : ℕ) (said : Told H) (t : Told M) (used : ℕ) → n ≡ number said → said ≡ retold header t
+    → _≡_ {A = Seen S H} (record { state = s; number = n; told = said; used = used }) (retells header (numbered s t used))
+shows {S} {M} {H} header s n said t used own is =
+    ap {B = Seen S H} (λ (k : ℕ). record { state = s; number = k; told = said; used = used }) (own ∙ ap number is ∙ number-retold header t)
+    ∙ ap {B = Seen S H} (λ (x : Told H). record { state = s; number = number t; told = x; used = used }) is
 
 module _ {S M H R : Type 0} (next : S → ℕ → Moved S (Event M)) (inRange : S → Bool) (header : M → H) (payload : M → List ℕ) (shown : R → Seen S H) where
   -- two results that the promise allows are shown alike, and the buffer holds the same
@@ -53,8 +67,8 @@ module _ {S M H R : Type 0} (next : S → ℕ → Moved S (Event M)) (inRange : 
     steps-seen s piece lent later r st =
         let c = called next inRange s piece lent in
         ap (retells (λ h. join h later)) (st .0)
-        ∙ ap {B = Seen S M} (λ (l : List ℕ). record { state = c .state; told = retold (λ h. join h l) (retold header (c .told)); used = c .used }) (st .1)
-        ∙ ap {B = Seen S M} (λ (t : Told M). record { state = c .state; told = t; used = c .used }) (rejoined (c .told) lent)
+        ∙ ap {B = Seen S M} (λ (l : List ℕ). record { state = c .state; number = c .number; told = retold (λ h. join h l) (retold header (c .told)); used = c .used }) (st .1)
+        ∙ ap {B = Seen S M} (λ (t : Told M). record { state = c .state; number = c .number; told = t; used = c .used }) (rejoined (c .told) lent)
 
     untouched : (t : Told M) (lent : List ℕ) → ((m : M) → t ≡ gives (message m) → ⊥) → delivered payload t lent ≡ lent
     untouched done lent n = refl

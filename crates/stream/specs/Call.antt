@@ -5,22 +5,27 @@ use mathlib.Core.Bool.{Bool, true, cond}
 use mathlib.Core.List.{List, _++_}
 use lib.ListN.{length, drop}
 use lib.Dec.{ltb}
-use Rattle.stream.specs.Event.{Event, message, damage, Told, done, gives, refuses, outcome}
+use Rattle.stream.specs.Event.{Event, message, damage, Told, done, gives, refuses, number, outcome}
 use Rattle.stream.specs.Pieces.{Moved, Called, scan}
 
--- what a call hands back: the next state, what it tells, and the number of bytes used
+-- what a call hands back: the next state, document 01's number of its answer, what it tells, and the number of bytes used
 pub record Seen (S M : Type 0) : Type 0 where
   pub state : S
+  pub number : ℕ
   pub told : Told M
   pub used : ℕ
 
+-- what is told, under its number
+abbrev pub numbered : {S M : Type 0} → S → Told M → ℕ → Seen S M
+numbered s t used = record { state = s; number = number t; told = t; used = used }
+
 -- a refusal: nothing used, state unchanged
 abbrev pub refused : {S M : Type 0} → ℕ → S → Seen S M
-refused n s = record { state = s; told = refuses n; used = 0 }
+refused n s = numbered s (refuses n) 0
 
 -- the piece, scanned
 abbrev pub answered : {S M : Type 0} → Called S (Event M) → Seen S M
-answered c = record { state = c .state; told = outcome (c .event); used = c .used }
+answered c = numbered (c .state) (outcome (c .event)) (c .used)
 
 -- what a reader is to be lent at least
 abbrev pub lentLeast : ℕ
@@ -46,9 +51,9 @@ retold f (gives (damage n)) = gives (damage n)
 retold f (refuses n) = refuses n
 
 abbrev pub retells : {S M N : Type 0} → (M → N) → Seen S M → Seen S N
-retells f c = record { state = c .state; told = retold f (c .told); used = c .used }
+retells f c = record { state = c .state; number = c .number; told = retold f (c .told); used = c .used }
 
--- THE PROMISE OF `step`: its result, as `shown` reads it off, is the call's, with a message's header for the message,
+-- THE PROMISE OF `step`: its result, as `shown` reads off its number and values, is the call's, with a message's header for the message,
 -- since the data are in the lent buffer; the lent buffer afterwards is as above; and, whatever the piece, a state in range leads to
 -- a state in range: "18 is never given for a fresh state or one that a reader handed back with another answer"
 abbrev pub Steps : {S M H R : Type 0} → (S → ℕ → Moved S (Event M)) → (S → Bool) → (M → H) → (M → List ℕ) → (R → Seen S H)

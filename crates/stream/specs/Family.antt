@@ -23,7 +23,7 @@ pub record Family : Type 1 where
   pub Writes : Message → List ℕ → Written → List ℕ → Type 0
   pub wrote : Written → Option ℕ
   -- its reader: the fresh state, the predicate that the promise of `step` names (state, piece, lent buffer, result, buffer afterwards),
-  -- and what a host sees: next state, bytes used, and what it is told, a message's data being read off the front of the buffer
+  -- and what a host sees: next state, answer number, bytes used, and what it is told, a message's data being read off the front of the buffer
   pub State : Type 0
   pub fresh : State
   pub Result : Type 0

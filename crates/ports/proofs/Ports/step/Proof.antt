@@ -1,9 +1,10 @@
 -- `Ports::step`: each way is that of the port's row: the call was made, and its answer is the one that the family's comes to.
 -- Assumes nothing.
-use mathlib.Core.Path.{refl}
+use mathlib.Core.Path.{refl, ap, _∙_}
+use mathlib.Core.List.{[]}
 use borrow.Author.Needs.{needs}
-use Rattle.ports.specs.Ports.{comlynxSeat, eversolarSeat, froniusSeat}
-use Rattle.ports.proofs.EveryRow.{each-seat}
+use Rattle.ports.specs.Ports.{comlynxSeat, eversolarSeat, froniusSeat, number}
+use Rattle.ports.proofs.EveryRow.{each-seat, factsOf}
 use Rattle.ports.proofs.TableLaws.{answered, seat-at, no-seat}
 use Rattle.ports.proofs.Ports.step.Statement.{statement}
 use Rattle.ports.proofs.Ports.step.Tie as tie
@@ -20,7 +21,7 @@ same-length c = search needs
 returns : tie.Need-returns
 returns c =
     let s = c .before .before .before .before in
-    rw (seat-at comlynxSeat (s .before .before .if1 .taken)) (s .step .result, s .step .ensures, answered _ _ (c .comlynx-answer .ensures))
+    rw (seat-at comlynxSeat (s .before .before .if1 .taken)) (s .step .result, s .step .ensures, answered _ _ (c .comlynx-answer .ensures), ap number (c .comlynx-answer .ensures) ∙ factsOf comlynxSeat .number (s .step .result) [])
 
 step-requires-2 : tie.Need-step-requires-2
 step-requires-2 c κs = search needs
@@ -34,7 +35,7 @@ same-length-2 c = search needs
 returns-2 : tie.Need-returns-2
 returns-2 c =
     let s = c .before .before .before .before in
-    rw (seat-at eversolarSeat (s .before .before .if2 .taken)) (s .step2 .result, s .step2 .ensures, answered _ _ (c .eversolar-answer .ensures))
+    rw (seat-at eversolarSeat (s .before .before .if2 .taken)) (s .step2 .result, s .step2 .ensures, answered _ _ (c .eversolar-answer .ensures), ap number (c .eversolar-answer .ensures) ∙ factsOf eversolarSeat .number (s .step2 .result) [])
 
 step-requires-3 : tie.Need-step-requires-3
 step-requires-3 c κs = search needs
@@ -48,10 +49,10 @@ same-length-3 c = search needs
 returns-3 : tie.Need-returns-3
 returns-3 c =
     let s = c .before .before .before .before in
-    rw (seat-at froniusSeat (s .before .before .if3 .taken)) (s .step3 .result, s .step3 .ensures, answered _ _ (c .fronius-answer .ensures))
+    rw (seat-at froniusSeat (s .before .before .if3 .taken)) (s .step3 .result, s .step3 .ensures, answered _ _ (c .fronius-answer .ensures), ap number (c .fronius-answer .ensures) ∙ factsOf froniusSeat .number (s .step3 .result) [])
 
 returns-4 : tie.Need-returns-4
-returns-4 c = rw (no-seat _ (each-seat _ (c .before .before .if1 .left) (c .before .if2 .left) (c .if3 .left))) (refl, refl)
+returns-4 c = rw (no-seat _ (each-seat _ (c .before .before .if1 .left) (c .before .if2 .left) (c .if3 .left))) (refl, refl, refl)
 
 pub step-spec : {M : Type 1} → statement M
 step-spec =

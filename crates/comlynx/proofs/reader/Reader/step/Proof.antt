@@ -4,23 +4,22 @@ use lib.ListN.{length-map}
 use Rattle.comlynx_checksum.specs.Checksum.{checksumOf}
 use Rattle.stream.specs.Event.{Event, gives}
 use Rattle.stream.specs.Event as Event
-use Rattle.stream.specs.Call.{Seen, retold, delivered}
+use Rattle.stream.specs.Call.{retold, delivered}
 use Rattle.stream.specs.Pieces.{Called, scan}
-use Rattle.stream.proofs.PromiseOfStep.{steps-spoilt, steps-no-room, steps-scan}
+use Rattle.stream.proofs.PromiseOfStep.{shows, steps-spoilt, steps-no-room, steps-scan}
 use Rattle.comlynx.specs.Wire.{Message, bodyMax}
 use Rattle.comlynx.specs.Rules.{judged}
 use Rattle.comlynx.specs.Machine.{closed, next}
-use Rattle.comlynx.specs.Reader.{inRange, header, told, shown, IsStep}
+use Rattle.comlynx.specs.Reader.{inRange, header, number, told, shown, IsStep}
 use Rattle.comlynx.specs.Inside.{eventOf, due, Small, given}
 use Rattle.comlynx.specs.declared.reader.Reader.{Reader}
-use Rattle.comlynx.specs.declared.reader.Header.{Header}
 use Rattle.comlynx.specs.declared.reader.End.{End}
 use Rattle.comlynx.specs.declared.reader.End.the-variants.{UsedUp, Closed, Broken}
 use Rattle.comlynx.specs.declared.reader.Answer.{Answer}
 use Rattle.comlynx.specs.declared.reader.Answer.the-variants.{Done, Damaged, Refused}
 use Rattle.answers.specs.declared.Refusal.the-variants.{NoRoom, Spoilt}
 use Rattle.answers.specs.declared.Damage.the-variants.{BrokenPair}
-use Rattle.comlynx.proofs.JudgedIsDelivered.{closes, delivers}
+use Rattle.comlynx.proofs.JudgedIsDelivered.{number-told, closes, delivers}
 use Prim.Native.Nat.{ℕ, _-_}
 use mathlib.Core.Path.{_≡_, refl, sym, _∙_, ap}
 use mathlib.Core.Bool.{Bool, true}
@@ -63,7 +62,7 @@ ends : (c : tie.After-run-in) (later : List ℕ) (x : Answer) (o : Option (Event
 ends c later x o e f g =
     let a = start c .args in
     steps-scan next inRange header (λ m. m .payload) shown (a .t1) (a .piece .now) (a .lent .now) later (record { reader = after c; answer = x; used = c .run-in .result .used }) _ (sound-at (c .before .before .before)) (c .before .before .if2 .left) e
-    (ap {B = Seen Reader Header} (λ t. record { state = after c; told = t; used = c .run-in .result .used }) f) g (c .run-in .ensures .ranged)
+    (shows header (after c) (number x) (told x) (Event.outcome o) (c .run-in .result .used) (number-told x) f) g (c .run-in .ensures .ranged)
 
 -- where a stretch closed: the run, the count, the event by what is due, and what it delivers
 abbrev ran : tie.After-judge-frame → tie.After-run-in

@@ -4,17 +4,16 @@ use mathlib.Core.List.{List}
 use lib.ListN.{length-map}
 use borrow.Author.Tests.{not-true, not-false}
 use Rattle.stream.specs.Event.{outcome}
-use Rattle.stream.specs.Call.{Seen, delivered}
-use Rattle.stream.proofs.PromiseOfStep.{steps-spoilt, steps-no-room, steps-scan}
+use Rattle.stream.specs.Call.{delivered}
+use Rattle.stream.proofs.PromiseOfStep.{shows, steps-spoilt, steps-no-room, steps-scan}
 use Rattle.fronius.specs.Wire.{Message}
 use Rattle.fronius.specs.Machine.{next}
-use Rattle.fronius.specs.Reader.{inRange, header, shown}
+use Rattle.fronius.specs.Reader.{inRange, header, number, told, shown}
 use Rattle.fronius.specs.Inside.{eventOf, Small, given}
 use Rattle.fronius.specs.declared.reader.Reader.{Reader}
-use Rattle.fronius.specs.declared.reader.Header.{Header}
 use Rattle.fronius.specs.declared.reader.Answer.the-variants.{Refused}
 use Rattle.answers.specs.declared.Refusal.the-variants.{NoRoom, Spoilt}
-use Rattle.fronius.proofs.JudgedIsDelivered.{delivers}
+use Rattle.fronius.proofs.JudgedIsDelivered.{number-told, delivers}
 use Prim.Native.Nat.{ℕ}
 use mathlib.Core.Path.{_≡_, refl, sym, _∙_, ap}
 use mathlib.Core.Bool.{true}
@@ -84,7 +83,7 @@ returns-3 c =
     let r = ran k in
     let a = start r .args in
     steps-scan next inRange header (λ m. m .payload) shown (a .t1) (a .piece .now) (a .lent .now) _ (record { reader = after r; answer = k .judge .result; used = r .run-in .result .used }) _ (sound-at (r .before .before .before)) (r .before .before .if2 .left) (r .run-in .ensures .scanned)
-    (ap {B = Seen Reader Header} (λ t. record { state = after r; told = t; used = r .run-in .result .used }) (k .judge .ensures))
+    (shows header (after r) (number (k .judge .result)) (told (k .judge .result)) (outcome (eventOf (r .run-in .result .end) (held r))) (r .run-in .result .used) (number-told (k .judge .result)) (k .judge .ensures))
     (c .before .before .deliver .ensures ∙ judged k .1)
     (r .run-in .ensures .ranged)
 
