@@ -1,33 +1,31 @@
--- A stretch of bytes that is judged a message is that message's body, stuffed, and nothing else.
+-- What the rule finds to be a message is that message's frame, and the writer takes it.
 -- Assumes nothing.
-use Prim.Native.Nat.{ℕ, zero, suc, _+_, _-_, _*_, _/_, _%_, _≤_, _<_}
-use mathlib.Core.Path.{_≡_, refl, ap, ap₂, _∙_, subst}
-use mathlib.Core.Bool.{true, false}
+use Prim.Native.Nat.{ℕ, suc, _+_, _-_, _*_, _/_, _%_, _≤_, _<_}
+use mathlib.Core.Path.{_≡_, refl, sym, ap, ap₂, _∙_, subst}
+use mathlib.Core.Bool.{Bool, true, false}
 use mathlib.Core.Option.{Option, none, some}
 use mathlib.Core.List.{List, [], _∷_, _++_}
 use lib.ListN.{length, take, drop, getD, length-take, length-drop}
 use lib.Dec.{T, eqb}
 use lib.Pow.{areBytes}
-use borrow.Author.Tests.{eqb-true}
+use borrow.Author.Tests.{eqb-true, eqb-false}
 use native.Mathlib.Omega.{arith}
 use Rattle.numbers.proofs.Alike.{zero-is-one}
 use Rattle.comlynx_checksum.specs.Checksum.{sent, others, agrees}
 use Rattle.comlynx_checksum.proofs.SentAgrees.{only-these}
-use Rattle.stream.specs.Event.{message, damage}
-use Rattle.stream.proofs.BytesOfParts.{bytes-head, bytes-tail, bytes-take, bytes-drop}
-use Rattle.comlynx.specs.Wire.{Message, Takes, covered, body, messageOf, stuffed, bodyMax, bodyLeast}
-use Rattle.comlynx.specs.Rules.{unstuffed, sized, begins, judged, judgedBody, judge}
-use Rattle.comlynx.specs.Demands.{Stretch, Sound}
+use Rattle.stream.specs.Event.{Event, message, damage, gives}
+use Rattle.stream.specs.Rule.{Settled}
+use Rattle.stream.specs.Demands.{EndsWith, BorneOut}
+use Rattle.stream.proofs.BytesOfParts.{bytes-cons, bytes-head, bytes-tail, bytes-at, bytes-append, bytes-take, bytes-drop}
+use Rattle.stream.proofs.BorneOutByBytes.{in-test, none-found, same-found, Bears, bears-on, bears-all}
+use Rattle.comlynx.specs.Wire.{Message, Takes, covered, body, messageOf, flag, stuffed, bodyMax, bodyLeast}
+use Rattle.comlynx.specs.Rules.{unstuffed, sized, begins, judged, judgedBody, judge, within, before, rule}
+use Rattle.comlynx.specs.Demands.{comlynx, Stretch}
 use Rattle.comlynx.proofs.JudgedIsDelivered.{both, sized-bounds}
-use Rattle.comlynx.proofs.UnstuffingUndoes.{in-test, bytes-unstuffed, stands-for}
+use Rattle.comlynx.proofs.UnstuffingUndoes.{bytes-unstuffed, stands-for}
 
 wrong : {A : Type 0} (k : ℕ) (m : Message) → damage k ≡ message m → A
 wrong k m q = zero-is-one cc
-
-bytes-at : (s : List ℕ) (i : ℕ) → T (areBytes s) → getD s i 0 < 256
-bytes-at [] i p = omega arith
-bytes-at (b ∷ s) zero p = bytes-head b s p
-bytes-at (b ∷ s) (suc i) p = bytes-at s i (bytes-tail b s p)
 
 eight : (u : List ℕ) → 8 ≤ length u
     → u ≡ getD u 0 0 ∷ getD u 1 0 ∷ getD u 2 0 ∷ getD u 3 0 ∷ getD u 4 0 ∷ getD u 5 0 ∷ getD u 6 0 ∷ getD u 7 0 ∷ drop 8 u
@@ -117,6 +115,58 @@ judged-only w (some u) m p k e v =
     let s : Shown u m = shows u m v in
     (takes-it u m g s, q ∙ ap stuffed (body-is u m g s))
 
-pub sound : Sound
+-- a stretch of bytes is judged a message only if it is the stuffing of that message's body, and the message is one that the writer takes
+judged-so : (w : List ℕ) (m : Message) → Stretch w → T (areBytes w) → judge w ≡ message m → Takes m × (w ≡ stuffed (body m))
 unfolding judge
-sound w m k p e = judged-only w (unstuffed false w) m p k refl e
+judged-so w m k p e = judged-only w (unstuffed false w) m p k refl e
+
+-- ---- so what the rule finds to be a message is its frame: the flag that opens it may be the one that closed the stretch before
+
+abbrev Borne : List ℕ → List ℕ → ℕ → Settled (Event Message) → Type 0
+Borne = Bears comlynx (flag ∷ [])
+
+-- a stretch and the flag that closes it
+closed : (w bs : List ℕ) (at : ℕ) → Stretch w → T (areBytes w) → Borne (flag ∷ w) (flag ∷ bs) at (record { event = judge w; used = at + 1 })
+closed w bs at k g = record { count = 1; used = refl; borne = go (judge w) refl; ends = record { front = flag ∷ w; joins = refl } }
+  where
+    go : (e : Event Message) → judge w ≡ e → BorneOut comlynx (flag ∷ (w ++ (flag ∷ []))) (gives e)
+    go (message m) q =
+        let j = judged-so w m k g q in
+        (j .0, record { front = []; joins = ap (λ (l : List ℕ). flag ∷ (l ++ (flag ∷ []))) (j .1) })
+    go (damage n) q = tt
+
+stretch-more : (w : List ℕ) (b : ℕ) → Stretch w → (b ≡ flag → ⊥) → Stretch (w ++ (b ∷ []))
+stretch-more [] b k n = (n, tt)
+stretch-more (x ∷ w) b k n = (k .0, stretch-more w b (k .1) n)
+
+in-stretch : (bs came : List ℕ) (at : ℕ) (p : Settled (Event Message)) → T (areBytes bs) → Stretch came → T (areBytes came) → within at came bs ≡ some p → Borne (flag ∷ came) bs at p
+unfolding within
+in-stretch [] came at p g k c e = none-found e
+in-stretch (b ∷ bs) came at p g k c e =
+    let more = bytes-tail b bs g in
+    in-test (λ o. o ≡ some p) (Borne (flag ∷ came) (b ∷ bs) at p) (eqb b flag) _ _ e
+    (λ t s. subst (λ (x : ℕ). Borne (flag ∷ came) (x ∷ bs) at p) (sym (eqb-true b flag t))
+    (in-test (λ o. o ≡ some p) (Borne (flag ∷ came) (flag ∷ bs) at p) (eqb (length came) 0) _ _ s
+    (λ z r. bears-on comlynx (flag ∷ []) (flag ∷ came) refl (in-stretch bs [] (at + 1) p more tt tt r))
+    (λ z r. subst (Borne (flag ∷ came) (flag ∷ bs) at) (same-found r) (closed came bs at k c))))
+    (λ t s. bears-on comlynx (flag ∷ []) [] refl
+    (in-stretch bs (came ++ (b ∷ [])) (at + 1) p more (stretch-more came b k (eqb-false b flag t)) (bytes-append came (b ∷ []) c (bytes-cons b [] (bytes-head b bs g) tt)) s))
+
+awaited : (bs : List ℕ) (at : ℕ) (p : Settled (Event Message)) → T (areBytes bs) → before at bs ≡ some p → Borne [] bs at p
+unfolding before
+awaited [] at p g e = none-found e
+awaited (b ∷ bs) at p g e =
+    let more = bytes-tail b bs g in
+    in-test (λ o. o ≡ some p) (Borne [] (b ∷ bs) at p) (eqb b flag) _ _ e
+    (λ t s. bears-on comlynx (flag ∷ []) [] (ap (λ (x : ℕ). x ∷ []) (eqb-true b flag t)) (in-stretch bs [] (at + 1) p more tt tt s))
+    (λ t s. bears-on comlynx (flag ∷ []) (b ∷ []) refl (awaited bs (at + 1) p more s))
+
+-- the byte that is known to have come last
+abbrev pub lastKnown : Bool → List ℕ
+lastKnown false = []
+lastKnown true = flag ∷ []
+
+pub borne-out : (known : Bool) (bs : List ℕ) → T (areBytes bs) → (p : Settled (Event Message)) → rule known bs ≡ some p
+    → BorneOut comlynx (lastKnown known ++ take (p .used) bs) (gives (p .event)) × EndsWith (flag ∷ []) (lastKnown known ++ take (p .used) bs)
+borne-out false bs g p e = bears-all comlynx (flag ∷ []) (awaited bs 0 p g e)
+borne-out true bs g p e = bears-all comlynx (flag ∷ []) (in-stretch bs [] 0 p g tt tt e)

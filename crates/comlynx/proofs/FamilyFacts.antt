@@ -15,6 +15,7 @@ use Rattle.comlynx.specs.Machine as Machine
 use Rattle.comlynx.specs.Reader.{inRange, header, join, shown}
 use Rattle.comlynx.specs.Demands.{comlynx}
 use Rattle.comlynx.proofs.MachineFollowsRule.{At, at-fresh, follows}
+use Rattle.comlynx.proofs.AcceptedIsWritten.{lastKnown, borne-out}
 use Rattle.comlynx.proofs.WrittenIsRead.{reads, wire-bytes}
 
 -- header and data make up the message
@@ -28,6 +29,9 @@ facts = record {
   At = At;
   at-start = at-fresh;
   follows = follows;
+  before = lastKnown;
+  before-start = refl;
+  borne-out = borne-out;
   reads = λ known m t. reads m known (t .fits);
   wire-bytes = wire-bytes;
   inRange = inRange;

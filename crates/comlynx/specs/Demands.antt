@@ -52,10 +52,6 @@ abbrev pub Stretch : List ℕ → Type 0
 Stretch [] = Unit {0}
 Stretch (b ∷ bs) = (b ≡ flag → ⊥) × Stretch bs
 
--- a stretch of bytes is accepted only if it is the stuffing of that message's body, and the message is one that the writer takes
-abbrev pub Sound : Type 0
-Sound = (w : List ℕ) (m : Message) → Stretch w → T (areBytes w) → judge w ≡ message m → Takes m × (w ≡ stuffed (body m))
-
 -- a stretch that is not empty is judged at the flag that closes it, and shown once: reading goes on after that flag, which opens the next
 abbrev pub ShownOnce : Type 0
 ShownOnce =

@@ -3,7 +3,7 @@
 use Prim.Native.Nat.{ℕ, _+_, _≤_}
 use mathlib.Core.Path.{_≡_, refl, sym, ap, _∙_}
 use mathlib.Core.Option.{some}
-use mathlib.Core.List.{List, _∷_, _++_}
+use mathlib.Core.List.{List, [], _∷_, _++_}
 use lib.ListN.{length, take, getD, length-append}
 use lib.Seq.{take-append-seam, getD-drop, getD-append-add}
 use lib.Dec.{T, ltb}
@@ -28,6 +28,7 @@ use Rattle.eversolar.specs.Demands.{eversolar}
 use Rattle.eversolar_words.proofs.WordLaws.{word-length, word-bytes, word-again}
 use Rattle.eversolar.proofs.WriterWritesFrame.{wire-length}
 use Rattle.eversolar.proofs.MachineFollowsRule.{Rests, rule-found, fresh-rests}
+use Rattle.eversolar.proofs.AcceptedIsWritten.{borne-out}
 
 -- ---- the rule reads what is written
 
@@ -101,6 +102,9 @@ facts = record {
   At = λ known. Rests;
   at-start = fresh-rests;
   follows = λ known s r bs g. follows-by (rule-found s r bs g);
+  before = λ known. [];
+  before-start = refl;
+  borne-out = λ known bs g p e. borne-out bs g p e;
   reads = λ known m t. read m;
   wire-bytes = wire-bytes;
   inRange = inRange;

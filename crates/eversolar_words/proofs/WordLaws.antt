@@ -1,7 +1,7 @@
 -- Laws of words, whatever the order of their two bytes. Every other proof goes by these.
 -- Assumes nothing.
 use Prim.Native.Nat.{ℕ, _/_, _%_, _<_}
-use mathlib.Core.Path.{_≡_, refl}
+use mathlib.Core.Path.{_≡_, refl, ap₂}
 use mathlib.Core.List.{[], _∷_}
 use lib.ListN.{length, getD}
 use lib.Dec.{T, ltb, lt→ltb}
@@ -39,3 +39,12 @@ word-bytes w h = parted-bytes order w h
 pub word-again : (w : ℕ) → word (getD (wordBytes w) 0 0) (getD (wordBytes w) 1 0) ≡ w
 unfolding word wordBytes
 word-again w = parted-joined order w
+
+joined-parted : (o : Order) (x y : ℕ) → x < 256 → y < 256 → parted o (joined o x y) ≡ x ∷ y ∷ []
+joined-parted lowFirst x y h k = ap₂ (λ (m n : ℕ). m ∷ n ∷ []) (omega arith) (omega arith)
+joined-parted highFirst x y h k = ap₂ (λ (m n : ℕ). m ∷ n ∷ []) (omega arith) (omega arith)
+
+-- and two bytes are those of the word that they make up
+pub word-parts : (x y : ℕ) → x < 256 → y < 256 → wordBytes (word x y) ≡ x ∷ y ∷ []
+unfolding word wordBytes
+word-parts x y h k = joined-parted order x y h k

@@ -25,6 +25,7 @@ use Rattle.fronius.specs.Machine as Machine
 use Rattle.fronius.specs.Reader.{inRange, header, join, shown}
 use Rattle.fronius.specs.Demands.{fronius}
 use Rattle.fronius.proofs.MachineFollowsRule.{Rests, rule-found, fresh-rests}
+use Rattle.fronius.proofs.AcceptedIsWritten.{borne-out}
 
 -- ---- the rule reads what is written
 
@@ -74,6 +75,9 @@ facts = record {
   At = λ known. Rests;
   at-start = fresh-rests;
   follows = λ known s r bs g. follows-by (rule-found s r bs);
+  before = λ known. [];
+  before-start = refl;
+  borne-out = λ known bs g p e. borne-out bs g p e;
   reads = λ known m t. read m t;
   wire-bytes = wire-bytes;
   inRange = inRange;

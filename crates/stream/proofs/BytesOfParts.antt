@@ -2,10 +2,11 @@
 -- Assumes nothing.
 use Prim.Native.Nat.{ℕ, zero, suc, _<_}
 use mathlib.Core.List.{List, [], _∷_, _++_}
-use lib.ListN.{take, drop}
+use lib.ListN.{take, drop, getD}
 use lib.Dec.{T, ltb, ltb→lt, lt→ltb}
 use lib.Pow.{areBytes}
 use mir.Facts.{and-yes, yes-and}
+use native.Mathlib.Omega.{arith}
 
 pub bytes-cons : (b : ℕ) (bs : List ℕ) → b < 256 → T (areBytes bs) → T (areBytes (b ∷ bs))
 bytes-cons b bs h t = yes-and (ltb b 256) (areBytes bs) (lt→ltb b 256 h) t
@@ -15,6 +16,11 @@ bytes-head b bs t = ltb→lt b 256 (and-yes (ltb b 256) (areBytes bs) t .0)
 
 pub bytes-tail : (b : ℕ) (bs : List ℕ) → T (areBytes (b ∷ bs)) → T (areBytes bs)
 bytes-tail b bs t = and-yes (ltb b 256) (areBytes bs) t .1
+
+pub bytes-at : (bs : List ℕ) (i : ℕ) → T (areBytes bs) → getD bs i 0 < 256
+bytes-at [] i t = omega arith
+bytes-at (b ∷ bs) zero t = bytes-head b bs t
+bytes-at (b ∷ bs) (suc i) t = bytes-at bs i (bytes-tail b bs t)
 
 pub bytes-append : (a b : List ℕ) → T (areBytes a) → T (areBytes b) → T (areBytes (a ++ b))
 bytes-append [] b s t = t

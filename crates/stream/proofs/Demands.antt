@@ -1,11 +1,12 @@
 -- The demands, for every family that shows its facts.
 -- Assumes nothing.
 use Prim.Native.Nat.{ℕ, zero, suc, _+_, _≤_}
-use mathlib.Core.Path.{_≡_, refl, sym, ap, ap₂, _∙_}
+use mathlib.Core.Path.{_≡_, refl, sym, ap, ap₂, _∙_, subst}
 use mathlib.Core.Bool.{Bool, true, false, cond}
 use mathlib.Core.Option.{Option, none, some}
 use mathlib.Core.List.{List, [], _∷_, _++_, map, flatten, append-assoc}
 use lib.ListN.{length, take, drop, length-drop, take-append-drop, drop-of-length-le}
+use lib.Seq.{take-add, drop-drop}
 use lib.Dec.{T, ltb}
 use lib.Pow.{areBytes}
 use native.Mathlib.Omega.{arith}
@@ -16,13 +17,14 @@ use Rattle.stream.specs.Call.{Seen, lentLeast, refused, answered, called
 use Rattle.stream.specs.Written.{written, ended, Each}
 use Rattle.stream.specs.Rule.{Settled, andOn, firstReadings, readings}
 use Rattle.stream.specs.Family.{Family, Call, toldBefore, sees, Allowed, used, toldFrom, Serves, ends, turns, calls}
-use Rattle.stream.specs.Demands.{asTold, Accepts, ReadsBack, Handed, InPieces, UsedUp, Different, Kept, NeverSpoilt, Demands}
+use Rattle.stream.specs.Demands.{asTold, EndsWith, Accepts, BorneOut, Sound, ReadsBack, Handed, InPieces, UsedUp, Different, Kept, NeverSpoilt, Demands}
 use Rattle.stream.proofs.BytesOfParts.{bytes-append, bytes-drop}
 use Rattle.stream.proofs.CallsComeTo.{settledBefore, events, settledIn, settledIn-events, scan-settledIn}
 use Rattle.stream.proofs.LoopScans.{scan-used, scan-uses, scan-none, scan-front}
 use Rattle.stream.proofs.WrittenIsGiven.{Reads, all-given, given, told-apart}
 use Rattle.stream.proofs.PromiseOfStep.{in-room}
 use Rattle.stream.proofs.FamilyFacts.{found, Facts}
+use Rattle.stream.proofs.BorneOutByBytes.{ends-later, borne-later}
 
 -- ---- what is told by different names is different
 
@@ -157,6 +159,40 @@ module _ (F : Family) (facts : Facts F) where
       told-is cs (F .fresh) (facts .fresh-in-range) al 0
       ∙ ap (map asTold) (ruled (length (used F cs)) (used F cs) (omega arith) (F .atStart) (F .fresh) (facts .at-start) g 0)
 
+  -- what the rule finds in all the bytes, from some of them on, is borne out by all of them
+  abbrev AllBorne : List ℕ → List (Settled (Event (F .Message))) → Type 0
+  AllBorne whole = Each (λ p. BorneOut F (take (p .used) whole) (gives (p .event)))
+
+  all-borne : (n : ℕ) (known : F .Known) (at : ℕ) (whole : List ℕ) → T (areBytes whole) → EndsWith (facts .before known) (take at whole)
+      → AllBorne whole (firstReadings (F .rule) (F .afterEvent) n known at (drop at whole))
+  all-borne zero known at whole g e = tt
+  all-borne (suc n) known at whole g e = go (F .rule known (drop at whole)) refl (λ a f. all-borne n (F .afterEvent) a whole g f)
+    where
+      go : (o : Option (Settled (Event (F .Message)))) → F .rule known (drop at whole) ≡ o
+          → ((a : ℕ) → EndsWith (facts .before (F .afterEvent)) (take a whole) → AllBorne whole (firstReadings (F .rule) (F .afterEvent) n (F .afterEvent) a (drop a whole)))
+          → AllBorne whole (andOn at o (λ u. firstReadings (F .rule) (F .afterEvent) n (F .afterEvent) (at + u) (drop u (drop at whole))))
+      go none q ih = tt
+      go (some p) q ih =
+          let u = p .used in
+          let part : List ℕ = facts .before known ++ take u (drop at whole) in
+          let b = facts .borne-out known (drop at whole) (bytes-drop at whole g) p q in
+          let split : take (at + u) whole ≡ e .front ++ part = take-add at u whole ∙ ap (λ (l : List ℕ). l ++ take u (drop at whole)) (e .joins) ∙ append-assoc (e .front) (facts .before known) (take u (drop at whole)) in (
+            subst (λ (l : List ℕ). BorneOut F l (gives (p .event))) (sym split) (borne-later F (e .front) part (gives (p .event)) (b .0)),
+            subst (λ (l : List ℕ). AllBorne whole (firstReadings (F .rule) (F .afterEvent) n (F .afterEvent) (at + u) l)) (sym (drop-drop u at whole))
+                (ih (at + u) (subst (EndsWith (facts .before (F .afterEvent))) (sym split) (ends-later (e .front) (b .1)))),
+          )
+
+  told-borne : (whole : List ℕ) (ps : List (Settled (Event (F .Message)))) → AllBorne whole ps → Each (λ p. BorneOut F (take (p .used) whole) (p .event)) (map asTold ps)
+  told-borne whole [] b = tt
+  told-borne whole (p ∷ ps) b = (b .0, told-borne whole ps (b .1))
+
+  pub sound : Sound F
+  sound cs al g =
+      let whole = used F cs in
+      let none-yet : EndsWith (facts .before (F .atStart)) [] = record { front = []; joins = sym (facts .before-start) } in
+      subst (Each (λ p. BorneOut F (take (p .used) whole) (p .event))) (sym (accepts cs al g))
+      (told-borne whole (readings (F .rule) (F .afterEvent) (F .atStart) whole) (all-borne (length whole) (F .atStart) 0 whole g none-yet))
+
   -- a state in which a message may begin to be read
   abbrev Rest : F .State → Type 0
   Rest s = (known : F .Known) × facts .At known s
@@ -252,6 +288,7 @@ module _ (F : Family) (facts : Facts F) where
 pub demands : (F : Family) → Facts F → Demands F
 demands F facts = record {
   accepts = accepts F facts;
+  sound = sound F facts;
   reads-back = reads-back F facts;
   handed = handed F facts;
   in-pieces = in-pieces F;

@@ -4,7 +4,7 @@ use Prim.Native.Nat.{ℕ}
 use mathlib.Core.Path.{_≡_}
 use mathlib.Core.Bool.{Bool, true}
 use mathlib.Core.Option.{Option, none, some}
-use mathlib.Core.List.{List}
+use mathlib.Core.List.{List, [], _++_}
 use lib.ListN.{length, take}
 use lib.Dec.{T}
 use lib.Pow.{areBytes}
@@ -13,6 +13,7 @@ use Rattle.stream.specs.Pieces.{Moved, scan}
 use Rattle.stream.specs.Call.{called}
 use Rattle.stream.specs.Rule.{Settled}
 use Rattle.stream.specs.Family.{Family}
+use Rattle.stream.specs.Demands.{EndsWith, BorneOut}
 
 -- what a call found, as a rule tells it
 abbrev pub found : {E : Type 0} → Option E → ℕ → Option (Settled E)
@@ -30,6 +31,11 @@ pub record Facts (F : Family) : Type 1 where
   pub At : F .Known → F .State → Type 0
   pub at-start : At (F .atStart) (F .fresh)
   pub follows : (known : F .Known) (s : F .State) → At known s → (bs : List ℕ) → T (areBytes bs) → Follows (F .rule) next At known (F .afterEvent) s bs
+  -- what the rule finds is borne out by the bytes. `before` are those that are known to have come last: a frame may begin with them
+  pub before : F .Known → List ℕ
+  pub before-start : before (F .atStart) ≡ []
+  pub borne-out : (known : F .Known) (bs : List ℕ) → T (areBytes bs) → (p : Settled (Event (F .Message))) → F .rule known bs ≡ some p
+      → BorneOut F (before known ++ take (p .used) bs) (gives (p .event)) × EndsWith (before (F .afterEvent)) (before known ++ take (p .used) bs)
   -- and of writing: the rule reads what is written, all of it bytes
   pub reads : (known : F .Known) (m : F .Message) → F .Takes m → F .rule known (F .wire m) ≡ some (record { event = message m; used = length (F .wire m) })
   pub wire-bytes : (m : F .Message) → F .Takes m → T (areBytes (F .wire m))

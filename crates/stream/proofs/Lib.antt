@@ -8,4 +8,5 @@ pub mod HeldIsDelivered
 pub mod HostRelies
 pub mod FamilyFacts
 pub mod FollowsByBytes
+pub mod BorneOutByBytes
 pub mod Demands

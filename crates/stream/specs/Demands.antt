@@ -6,7 +6,7 @@ use mathlib.Core.List.{List, [], _∷_, _++_, map, flatten}
 use lib.ListN.{length, take}
 use lib.Dec.{T}
 use lib.Pow.{areBytes}
-use Rattle.stream.specs.Event.{Event, message, Told, done, gives, refuses}
+use Rattle.stream.specs.Event.{Event, message, damage, Told, done, gives, refuses}
 use Rattle.stream.specs.Pieces.{Moved, calls, feed}
 use Rattle.stream.specs.Call.{lentLeast}
 use Rattle.stream.specs.Written.{written, ended, Each}
@@ -30,13 +30,32 @@ module _ {S E : Type 0} (next : S → ℕ → Moved S E) where
 abbrev pub asTold : {M : Type 0} → Settled (Event M) → Settled (Told M)
 asTold p = record { event = gives (p .event); used = p .used }
 
+-- bytes that end with these
+pub record EndsWith (end bs : List ℕ) : Type 0 where
+  pub front : List ℕ
+  pub joins : bs ≡ front ++ end
+
 module _ (F : Family) where
-  -- DEMAND 2. From fresh, whatever is handed over in whatever calls: what is told, and at which byte, is exactly what the rule finds
-  -- in the bytes used. So a frame is accepted exactly when every rule of its family holds, and reading goes on as the rule does
+  -- DEMAND 2. From fresh, whatever is handed over in whatever calls with at least 255 bytes lent: what is told, and at which byte, is exactly
+  -- what the rule finds in the bytes used. So a frame is accepted exactly when every rule of its family holds, and reading goes on as the rule does
   abbrev pub Accepts : Type 0
   Accepts =
       (cs : List (Call (F .Result))) → Allowed F (F .fresh) cs → T (areBytes (used F cs))
       → toldFrom F 0 cs ≡ map asTold (readings (F .rule) (F .afterEvent) (F .atStart) (used F cs))
+
+  -- what is told where these bytes were used: a message is one that the writer takes, and the bytes end with its bytes on the wire
+  abbrev pub BorneOut : List ℕ → Told (F .Message) → Type 0
+  BorneOut bs done = Unit {0}
+  BorneOut bs (gives (message m)) = F .Takes m × EndsWith (F .wire m) bs
+  BorneOut bs (gives (damage n)) = Unit {0}
+  BorneOut bs (refuses n) = Unit {0}
+
+  -- DEMAND 2. And a rule that accepts anything else is shut out: from fresh, in such calls, each message that is told is one that the writer
+  -- takes, and the bytes used up to then end with its frame. So its length is never above what a message of the family has
+  abbrev pub Sound : Type 0
+  Sound =
+      (cs : List (Call (F .Result))) → Allowed F (F .fresh) cs → T (areBytes (used F cs))
+      → Each (λ p. BorneOut (take (p .used) (used F cs)) (p .event)) (toldFrom F 0 cs)
 
   -- DEMAND 2. Each message written reads back as itself, whatever follows it, with any buffer of at least 255 bytes
   abbrev pub ReadsBack : Type 0
@@ -96,6 +115,7 @@ module _ (F : Family) where
 -- ALL THAT IS DEMANDED of a family, in one statement
 pub record Demands (F : Family) : Type 0 where
   pub accepts : Accepts F
+  pub sound : Sound F
   pub reads-back : ReadsBack F
   pub handed : Handed F
   pub in-pieces : InPieces F

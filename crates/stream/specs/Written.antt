@@ -16,7 +16,7 @@ module _ {M : Type 0} (wire : M → List ℕ) where
   ended n [] = 0
   ended n (m ∷ ms) = cond (leb (length (wire m)) n) (suc (ended (n - length (wire m)) ms)) 0
 
--- each of these messages is one that the writer takes
-abbrev pub Each : {M : Type 0} → (M → Type 0) → List M → Type 0
-Each Takes [] = Unit {0}
-Each Takes (m ∷ ms) = Takes m × Each Takes ms
+-- each one of a list, such as each message being one that the writer takes
+abbrev pub Each : {A : Type 0} → (A → Type 0) → List A → Type 0
+Each Holds [] = Unit {0}
+Each Holds (a ∷ rest) = Holds a × Each Holds rest
