@@ -15,6 +15,7 @@ use Rattle.comlynx.specs.Machine as Machine
 use Rattle.comlynx.specs.Reader.{inRange, header, join, shown}
 use Rattle.comlynx.specs.Demands.{comlynx}
 use Rattle.comlynx.proofs.MachineFollowsRule.{At, at-fresh, follows}
+use Rattle.comlynx.proofs.ResultsExist.{results}
 use Rattle.comlynx.proofs.AcceptedIsWritten.{lastKnown, borne-out}
 use Rattle.comlynx.proofs.WrittenIsRead.{reads, wire-bytes}
 
@@ -37,6 +38,7 @@ facts = record {
   inRange = inRange;
   fresh-in-range = refl;
   steps = steps-seen next inRange header (λ m. m .payload) shown join joins;
+  results = results;
   stays-in-range = λ s piece lent later r st. st .2;
   keeps = steps-keeps next inRange header (λ m. m .payload) shown join joins;
   writes = λ m lent later w n. writes-frame (ltb payloadMax (length (m .payload))) (wire m) lent later w n;

@@ -8,6 +8,7 @@ pub mod WrittenIsRead
 pub mod AcceptedIsWritten
 pub mod StoresMakeFrame
 pub mod WriterWritesFrame
+pub mod ResultsExist
 pub mod FamilyFacts
 pub mod Demands
 pub mod One

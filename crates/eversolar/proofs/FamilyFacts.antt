@@ -28,6 +28,7 @@ use Rattle.eversolar.specs.Demands.{eversolar}
 use Rattle.eversolar_words.proofs.WordLaws.{word-length, word-bytes, word-again}
 use Rattle.eversolar.proofs.WriterWritesFrame.{wire-length}
 use Rattle.eversolar.proofs.MachineFollowsRule.{Rests, rule-found, fresh-rests}
+use Rattle.eversolar.proofs.ResultsExist.{results}
 use Rattle.eversolar.proofs.AcceptedIsWritten.{borne-out}
 
 -- ---- the rule reads what is written
@@ -110,6 +111,7 @@ facts = record {
   inRange = inRange;
   fresh-in-range = refl;
   steps = steps-seen next inRange header (λ m. m .payload) shown join joins;
+  results = results;
   stays-in-range = λ s piece lent later r st. st .2;
   keeps = steps-keeps next inRange header (λ m. m .payload) shown join joins;
   writes = λ m lent later w n. writes-frame (ltb payloadMax (length (m .payload))) (wire m) lent later w n;

@@ -25,6 +25,7 @@ use Rattle.fronius.specs.Machine as Machine
 use Rattle.fronius.specs.Reader.{inRange, header, join, shown}
 use Rattle.fronius.specs.Demands.{fronius}
 use Rattle.fronius.proofs.MachineFollowsRule.{Rests, rule-found, fresh-rests}
+use Rattle.fronius.proofs.ResultsExist.{results}
 use Rattle.fronius.proofs.AcceptedIsWritten.{borne-out}
 
 -- ---- the rule reads what is written
@@ -83,6 +84,7 @@ facts = record {
   inRange = inRange;
   fresh-in-range = refl;
   steps = steps-seen next inRange header (λ m. m .payload) shown join joins;
+  results = results;
   stays-in-range = λ s piece lent later r st. st .2;
   keeps = steps-keeps next inRange header (λ m. m .payload) shown join joins;
   writes = λ m lent later w n. writes-frame (ltb payloadMax (length (m .payload))) (wire m) lent later w n;

@@ -1,11 +1,11 @@
 -- The demands, for every family that shows its facts.
 -- Assumes nothing.
-use Prim.Native.Nat.{ℕ, zero, suc, _+_, _≤_}
+use Prim.Native.Nat.{ℕ, zero, suc, _+_, _-_, _≤_, _<_}
 use mathlib.Core.Path.{_≡_, refl, sym, ap, ap₂, _∙_, subst}
 use mathlib.Core.Bool.{Bool, true, false, cond}
 use mathlib.Core.Option.{Option, none, some}
 use mathlib.Core.List.{List, [], _∷_, _++_, map, flatten, append-assoc}
-use lib.ListN.{length, take, drop, length-drop, take-append-drop, drop-of-length-le}
+use lib.ListN.{length, take, drop, length-append, length-drop, take-append-drop, drop-of-length-le}
 use lib.Seq.{take-add, drop-drop}
 use lib.Dec.{T, ltb}
 use lib.Pow.{areBytes}
@@ -17,8 +17,8 @@ use Rattle.stream.specs.Call.{Seen, lentLeast, refused, answered, called
 use Rattle.stream.specs.Written.{written, ended, Each}
 use Rattle.stream.specs.Rule.{Settled, andOn, firstReadings, readings}
 use Rattle.stream.specs.Family.{Family, Call, toldBefore, sees, Allowed, used, toldFrom, Serves, ends, turns, calls}
-use Rattle.stream.specs.Demands.{asTold, EndsWith, Accepts, BorneOut, Sound, ReadsBack, Handed, InPieces, UsedUp, Different, Kept, NeverSpoilt, Demands}
-use Rattle.stream.proofs.BytesOfParts.{bytes-append, bytes-drop}
+use Rattle.stream.specs.Demands.{asTold, EndsWith, Accepts, BorneOut, Sound, ReadsBack, InPieces, CutAnywhere, Served, CallsExist, Handed, UsedUp, Different, Kept, NeverSpoilt, Demands}
+use Rattle.stream.proofs.BytesOfParts.{bytes-append, bytes-left, bytes-right, bytes-drop}
 use Rattle.stream.proofs.CallsComeTo.{settledBefore, events, settledIn, settledIn-events, scan-settledIn}
 use Rattle.stream.proofs.LoopScans.{scan-used, scan-uses, scan-none, scan-front}
 use Rattle.stream.proofs.WrittenIsGiven.{Reads, all-given, given, told-apart}
@@ -36,6 +36,10 @@ gives-refuses h = zero-is-one cc
 
 nine-eighteen : {M : Type 0} → _≡_ {A = Told M} (refuses 9) (refuses 18) → ⊥
 nine-eighteen h = let z : _≡_ {A = ℕ} 9 18 = cc in omega arith
+
+no-refusal : {M : Type 0} (o : Option (Event M)) (n : ℕ) → outcome o ≡ refuses n → ⊥
+no-refusal none n h = done-refuses h
+no-refusal (some e) n h = gives-refuses h
 
 told-done : {M : Type 0} (o : Option (Event M)) → outcome o ≡ done → o ≡ none
 told-done none h = refl
@@ -248,6 +252,52 @@ module _ (F : Family) (facts : Facts F) where
       ∙ given next (F .wire) message (F .Takes) Rest reads-at-rest (F .fresh) fresh-rests ms g n)
       ∙ told-messages (take (ended (F .wire) n ms) ms)
 
+  pub cut-anywhere : CutAnywhere F
+  cut-anywhere ms g n ps cut cs h =
+      let all = served F h in
+      handed ms g n cs (all .0) (all .1 ∙ cut)
+
+  -- ---- the calls exist: where n bounds bytes and pieces together, each call and each piece used up makes both fewer
+
+  module _ (lent : ℕ → List ℕ) (room : (n : ℕ) → lentLeast ≤ length (lent n)) where
+    one-call : (s : F .State) (b : ℕ) (bs : List ℕ) (ps : List (List ℕ)) (at : ℕ) → facts .inRange s ≡ true → T (areBytes (b ∷ bs))
+        → ((t : F .State) (u : ℕ) → facts .inRange t ≡ true → 0 < u → Served F t (drop u (b ∷ bs) ∷ ps) lent (suc at)) → Served F s ((b ∷ bs) ∷ ps) lent at
+    unfolding flatten
+    one-call s b bs ps at i g on =
+        let next = facts .next in
+        let p = b ∷ bs in
+        let has = facts .results s p (lent at) i g (room at) in
+        let r = has .result in
+        let later = has .later in
+        let one : F .seen r later ≡ answered (scan next s p) = facts .steps s p (lent at) later r (has .steps) ∙ in-room next (facts .inRange) s p (lent at) i (room at) in
+        let u = F .seen r later .used in
+        let count : u ≡ scan next s p .used = ap (λ (v : Seen (F .State) (F .Message)). v .used) one in
+        let some : 0 < u = omega (arith, scan-uses next s p (omega arith)) in
+        let rest = on (F .seen r later .state) u (facts .stays-in-range s p (lent at) later r (has .steps) i) some in
+        let fewer : length (drop u p ++ flatten ps) ≡ length p - u + length (flatten ps) = length-append (drop u p) (flatten ps) ∙ ap (λ (k : ℕ). k + length (flatten ps)) (length-drop u p) in
+        record {
+          made = record { piece = p; lent = lent at; result = r; later = later } ∷ rest .made;
+          serves = calls p (lent at) later r (room at) (has .steps) (rest .serves);
+          lends = (refl, rest .lends);
+          ends = rw length-append (omega (arith, rest .ends, fewer, count, scan-used next s p));
+          unrefused = (λ why e. no-refusal (scan next s p .event) why (sym (ap (λ (v : Seen (F .State) (F .Message)). v .told) one) ∙ e), rest .unrefused);
+        }
+
+    serve : (n : ℕ) (s : F .State) (ps : List (List ℕ)) (at : ℕ) → facts .inRange s ≡ true → T (areBytes (flatten ps)) → length (flatten ps) + length ps ≤ n → Served F s ps lent at
+    unfolding flatten
+    serve n s [] at i g h = record { made = []; serves = ends; lends = tt; ends = omega arith; unrefused = tt }
+    serve zero s (p ∷ ps) at i g h = absurd (omega arith)
+    serve (suc n) s ([] ∷ ps) at i g h =
+        let rest = serve n s ps at i g (omega arith) in
+        record { made = rest .made; serves = turns (rest .serves); lends = rest .lends; ends = rest .ends; unrefused = rest .unrefused }
+    serve (suc n) s ((b ∷ bs) ∷ ps) at i g h =
+        one-call s b bs ps at i (bytes-left (b ∷ bs) (flatten ps) g)
+        (λ t u j some. serve n t (drop u (b ∷ bs) ∷ ps) (suc at) j (bytes-append (drop u (b ∷ bs)) (flatten ps) (bytes-drop u (b ∷ bs) (bytes-left (b ∷ bs) (flatten ps) g)) (bytes-right (b ∷ bs) (flatten ps) g))
+        (omega (arith, length-append (drop u (b ∷ bs)) (flatten ps), length-drop u (b ∷ bs), length-append (b ∷ bs) (flatten ps), some)))
+
+  pub calls-exist : CallsExist F
+  calls-exist ps g lent room = serve lent room (length (flatten ps) + length ps) (F .fresh) ps 0 (facts .fresh-in-range) g (omega arith)
+
   pub different : Different F
   different = told-apart (facts .next) (F .wire) message (F .Takes) Rest reads-at-rest (λ a b e. cc) (F .fresh) fresh-rests
 
@@ -290,8 +340,9 @@ demands F facts = record {
   accepts = accepts F facts;
   sound = sound F facts;
   reads-back = reads-back F facts;
+  cut-anywhere = cut-anywhere F facts;
+  calls-exist = calls-exist F facts;
   handed = handed F facts;
-  in-pieces = in-pieces F;
   used-up = used-up F facts;
   different = different F facts;
   kept = kept F facts;

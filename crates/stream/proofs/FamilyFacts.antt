@@ -1,6 +1,6 @@
 -- THE FACTS THAT A FAMILY HAS TO SHOW. The demands follow from them, for every family alike: `proofs/Demands.antt`.
 -- Assumes nothing.
-use Prim.Native.Nat.{ℕ}
+use Prim.Native.Nat.{ℕ, _≤_}
 use mathlib.Core.Path.{_≡_}
 use mathlib.Core.Bool.{Bool, true}
 use mathlib.Core.Option.{Option, none, some}
@@ -10,7 +10,7 @@ use lib.Dec.{T}
 use lib.Pow.{areBytes}
 use Rattle.stream.specs.Event.{Event, message, gives}
 use Rattle.stream.specs.Pieces.{Moved, scan}
-use Rattle.stream.specs.Call.{called}
+use Rattle.stream.specs.Call.{lentLeast, called}
 use Rattle.stream.specs.Rule.{Settled}
 use Rattle.stream.specs.Family.{Family}
 use Rattle.stream.specs.Demands.{EndsWith, BorneOut}
@@ -24,6 +24,12 @@ found (some e) used = some (record { event = e; used = used })
 pub record Follows {K S E : Type 0} (rule : K → List ℕ → Option (Settled E)) (next : S → ℕ → Moved S E) (At : K → S → Type 0) (known after : K) (s : S) (bs : List ℕ) : Type 0 where
   pub finds : rule known bs ≡ found (scan next s bs .event) (scan next s bs .used)
   pub goes-on : (e : E) → scan next s bs .event ≡ some e → At after (scan next s bs .state)
+
+-- a call on this piece with this buffer lent has a result
+pub record HasResult (F : Family) (s : F .State) (piece lent : List ℕ) : Type 0 where
+  pub result : F .Result
+  pub later : List ℕ
+  pub steps : F .Steps s piece lent result later
 
 pub record Facts (F : Family) : Type 1 where
   -- THE ONE FACT OF READING: a machine that follows the rule from every state in which an event may begin to be read
@@ -39,10 +45,11 @@ pub record Facts (F : Family) : Type 1 where
   -- and of writing: the rule reads what is written, all of it bytes
   pub reads : (known : F .Known) (m : F .Message) → F .Takes m → F .rule known (F .wire m) ≡ some (record { event = message m; used = length (F .wire m) })
   pub wire-bytes : (m : F .Message) → F .Takes m → T (areBytes (F .wire m))
-  -- the calls do as the machine, from the states in range, and lead to such states; and the writer writes the wire's bytes, or nothing
+  -- the calls do as the machine, have a result from the states in range, and lead to such states; and the writer writes the wire's bytes, or nothing
   pub inRange : F .State → Bool
   pub fresh-in-range : inRange (F .fresh) ≡ true
   pub steps : (s : F .State) (piece lent later : List ℕ) (r : F .Result) → F .Steps s piece lent r later → F .seen r later ≡ called next inRange s piece lent
+  pub results : (s : F .State) (piece lent : List ℕ) → inRange s ≡ true → T (areBytes piece) → lentLeast ≤ length lent → HasResult F s piece lent
   pub stays-in-range : (s : F .State) (piece lent later : List ℕ) (r : F .Result) → F .Steps s piece lent r later → inRange s ≡ true → inRange (F .seen r later .state) ≡ true
   pub keeps : (s : F .State) (piece lent later : List ℕ) (r : F .Result) → F .Steps s piece lent r later
       → ((m : F .Message) → F .seen r later .told ≡ gives (message m) → ⊥) → later ≡ lent

@@ -9,4 +9,5 @@ pub mod HostRelies
 pub mod FamilyFacts
 pub mod FollowsByBytes
 pub mod BorneOutByBytes
+pub mod ResultsExist
 pub mod Demands

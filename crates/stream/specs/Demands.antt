@@ -1,5 +1,5 @@
--- What is demanded of every family, as one record: a family's own demands are that record at that family. Before them two laws of any machine.
-use Prim.Native.Nat.{ℕ, _≤_, _<_}
+-- What is demanded of every family, as one record: a family's own demands are that record at that family. Before them three laws that need none.
+use Prim.Native.Nat.{ℕ, suc, _≤_, _<_}
 use mathlib.Core.Path.{_≡_}
 use mathlib.Core.Option.{none, some}
 use mathlib.Core.List.{List, [], _∷_, _++_, map, flatten}
@@ -11,9 +11,9 @@ use Rattle.stream.specs.Pieces.{Moved, calls, feed}
 use Rattle.stream.specs.Call.{lentLeast}
 use Rattle.stream.specs.Written.{written, ended, Each}
 use Rattle.stream.specs.Rule.{Settled, readings}
-use Rattle.stream.specs.Family.{Family, Call, Allowed, used, toldFrom, Serves}
+use Rattle.stream.specs.Family.{Family, Call, sees, Allowed, used, toldFrom, Serves}
 
--- ---- laws of any machine: they are no demands, since every machine meets them
+-- ---- laws: they are no demands, since every machine and every family meets them
 
 module _ {S E : Type 0} (next : S → ℕ → Moved S E) where
   -- pieces do not matter: the same bytes in one piece come to the same
@@ -23,6 +23,12 @@ module _ {S E : Type 0} (next : S → ℕ → Moved S E) where
   -- a piece is used up in at most as many calls as it has bytes, and further calls change nothing
   abbrev pub UsedUpInTime : Type 0
   UsedUpInTime = (s : S) (p : List ℕ) (n : ℕ) → length p ≤ n → (calls next n s p .left ≡ []) × (calls next n s p ≡ calls next (length p) s p)
+
+module _ (F : Family) where
+  -- each piece called on until it is used up: such calls are among those that are allowed, and the bytes that they use are the pieces joined
+  abbrev pub InPieces : Type 0
+  InPieces =
+      (s : F .State) (ps : List (List ℕ)) (cs : List (Call (F .Result))) → Serves F s ps cs → Allowed F s cs × (used F cs ≡ flatten ps)
 
 -- ---- the demands, of any family
 
@@ -65,20 +71,45 @@ module _ (F : Family) where
       → (rest lent later : List ℕ) (r : F .Result) → lentLeast ≤ length lent → F .Steps (F .fresh) (take n frame ++ rest) lent r later
       → (F .seen r later .told ≡ gives (message m)) × (F .seen r later .used ≡ n)
 
-  -- DEMAND 3. Any list of messages written one after another, handed over in any calls and stopped after any byte, the nth: what was told
-  -- are exactly the messages whose last byte was handed over, in order, once, and no damage
+  -- what calls told are exactly the messages among ms whose last byte is one of the first n, in order, once, and no damage
+  abbrev pub TellEnded : List (F .Message) → ℕ → List (Call (F .Result)) → Type 0
+  TellEnded ms n cs = map (λ p. p .event) (toldFrom F 0 cs) ≡ map (λ m. gives (message m)) (take (ended (F .wire) n ms) ms)
+
+  -- DEMAND 3. Any list of messages, written one after another, cut anywhere into pieces, each piece called on until it is used up, stopped after
+  -- any byte, the nth: what was told are exactly the messages whose last byte was handed over, in order, once, and no damage
+  abbrev pub CutAnywhere : Type 0
+  CutAnywhere =
+      (ms : List (F .Message)) → Each (F .Takes) ms
+      → (n : ℕ) (ps : List (List ℕ)) → flatten ps ≡ take n (written (F .wire) ms)
+      → (cs : List (Call (F .Result))) → Serves F (F .fresh) ps cs → TellEnded ms n cs
+
+  -- calls are lent these buffers in turn, from the nth on
+  abbrev pub LentBy : (ℕ → List ℕ) → ℕ → List (Call (F .Result)) → Type 0
+  LentBy lent n [] = Unit {0}
+  LentBy lent n (c ∷ cs) = (c .lent ≡ lent n) × LentBy lent (suc n) cs
+
+  -- calls from state s on that use up the pieces: at most as many as the pieces have bytes, and none is refused
+  pub record Served (s : F .State) (ps : List (List ℕ)) (lent : ℕ → List ℕ) (n : ℕ) : Type 0 where
+    pub made : List (Call (F .Result))
+    pub serves : Serves F s ps made
+    pub lends : LentBy lent n made
+    pub ends : length made ≤ length (flatten ps)
+    pub unrefused : Each (λ c. (why : ℕ) → sees F c .told ≡ refuses why → ⊥) made
+
+  -- DEMAND 3. There are such calls for every cut, and they end: whatever pieces of bytes there are, and whatever buffers of at least 255 bytes
+  -- are lent in turn
+  abbrev pub CallsExist : Type 0
+  CallsExist =
+      (ps : List (List ℕ)) → T (areBytes (flatten ps)) → (lent : ℕ → List ℕ) → ((n : ℕ) → lentLeast ≤ length (lent n))
+      → Served (F .fresh) ps lent 0
+
+  -- DEMAND 3. The same messages from a host that calls otherwise, with any pieces, used up or not: what counts is the bytes used
   abbrev pub Handed : Type 0
   Handed =
       (ms : List (F .Message)) → Each (F .Takes) ms
-      → (n : ℕ) (cs : List (Call (F .Result))) → Allowed F (F .fresh) cs → used F cs ≡ take n (written (F .wire) ms)
-      → map (λ p. p .event) (toldFrom F 0 cs) ≡ map (λ m. gives (message m)) (take (ended (F .wire) n ms) ms)
+      → (n : ℕ) (cs : List (Call (F .Result))) → Allowed F (F .fresh) cs → used F cs ≡ take n (written (F .wire) ms) → TellEnded ms n cs
 
-  -- DEMAND 3. Pieces cut anywhere and each called on until it is used up are such calls, and the bytes handed over are the pieces joined
-  abbrev pub InPieces : Type 0
-  InPieces =
-      (s : F .State) (ps : List (List ℕ)) (cs : List (Call (F .Result))) → Serves F s ps cs → Allowed F s cs × (used F cs ≡ flatten ps)
-
-  -- DEMAND 3. And the calls end: one that is not refused uses no more than its piece, at least a byte of it if there is one,
+  -- DEMAND 3. Every call gets on: one that is not refused uses no more than its piece, at least a byte of it if there is one,
   -- and all of it if it tells nothing
   abbrev pub UsedUp : Type 0
   UsedUp =
@@ -117,8 +148,9 @@ pub record Demands (F : Family) : Type 0 where
   pub accepts : Accepts F
   pub sound : Sound F
   pub reads-back : ReadsBack F
+  pub cut-anywhere : CutAnywhere F
+  pub calls-exist : CallsExist F
   pub handed : Handed F
-  pub in-pieces : InPieces F
   pub used-up : UsedUp F
   pub different : Different F
   pub kept : Kept F
