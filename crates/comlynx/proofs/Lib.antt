@@ -5,6 +5,7 @@ pub mod JudgedIsDelivered
 pub mod UnstuffingUndoes
 pub mod MachineFollowsRule
 pub mod WrittenIsRead
+pub mod StretchesShownOnce
 pub mod AcceptedIsWritten
 pub mod StoresMakeFrame
 pub mod WriterWritesFrame

@@ -18,12 +18,12 @@ use Rattle.stream.specs.Rule.{Settled}
 use Rattle.stream.proofs.BytesOfParts.{bytes-cons, bytes-append}
 use Rattle.comlynx.specs.Wire.{Message, Takes, covered, body, messageOf, flag, stuffed, wire, payloadMax, bodyMax, bodyLeast}
 use Rattle.comlynx.specs.Rules.{sized, begins, judged, judgedBody, judge, within, before, rule}
-use Rattle.comlynx.specs.Demands.{Stretch, ShownOnce, special, Room}
+use Rattle.comlynx.specs.Demands.{Stretch, special, Room}
 use Rattle.comlynx.proofs.UnstuffingUndoes.{unstuffed-stuffed, stuffed-stretch, stuffed-length, special-most, bytes-stuffed}
 
 -- ---- a stretch by the rule
 
-within-stretch : (w : List ℕ) → Stretch w → (at : ℕ) (came rest : List ℕ) → within at came (w ++ rest) ≡ within (at + length w) (came ++ w) rest
+pub within-stretch : (w : List ℕ) → Stretch w → (at : ℕ) (came rest : List ℕ) → within at came (w ++ rest) ≡ within (at + length w) (came ++ w) rest
 unfolding within
 within-stretch [] k at came rest =
     let e : at ≡ at + 0 = omega arith in
@@ -34,7 +34,7 @@ within-stretch (b ∷ w) k at came rest =
     (within-stretch w (k .1) (at + 1) (came ++ (b ∷ [])) rest
     ∙ ap₂ (λ (n : ℕ) (l : List ℕ). within n l rest) e (append-assoc came (b ∷ []) w))
 
-within-flag : (at : ℕ) (w rest : List ℕ) → 0 < length w → within at w (flag ∷ rest) ≡ some (record { event = judge w; used = at + 1 })
+pub within-flag : (at : ℕ) (w rest : List ℕ) → 0 < length w → within at w (flag ∷ rest) ≡ some (record { event = judge w; used = at + 1 })
 unfolding within
 within-flag at w rest k = rw (ne-eqb (length w) 0 (λ e. omega arith))
 
@@ -45,10 +45,10 @@ opened w rest k h =
     ∙ within-flag (1 + length w) w rest h
     ∙ ap {B = Option (Settled (Event Message))} (λ n. some (record { event = judge w; used = n })) e
 
-pub shown-once : ShownOnce
+read-once : (known : Bool) (w rest : List ℕ) → Stretch w → 0 < length w → rule known (flag ∷ (w ++ (flag ∷ rest))) ≡ some (record { event = judge w; used = length w + 2 })
 unfolding within before
-shown-once false w rest k h = opened w rest k h
-shown-once true w rest k h = opened w rest k h
+read-once false w rest k h = opened w rest k h
+read-once true w rest k h = opened w rest k h
 
 -- ---- a body
 
@@ -107,7 +107,7 @@ module _ (m : Message) where
   pub reads : (known : Bool) → length (m .payload) ≤ payloadMax → rule known (wire m) ≡ some (record { event = message m; used = length (wire m) })
   reads known h =
       let n : length (stuffed (body m)) + 2 ≡ length (wire m) = omega (arith, length-append (stuffed (body m)) (flag ∷ [])) in
-      shown-once known (stuffed (body m)) [] (stuffed-stretch (body m)) (omega (arith, stuffed-length (body m), body-length m))
+      read-once known (stuffed (body m)) [] (stuffed-stretch (body m)) (omega (arith, stuffed-length (body m), body-length m))
       ∙ ap₂ {C = Option (Settled (Event Message))} (λ (e : Event Message) (k : ℕ). some (record { event = e; used = k })) (judge-body h) n
 
 pub room : Room

@@ -1,19 +1,19 @@
 -- ComLynx as a family, and what is demanded of it: as of every family, and what is its own.
-use Prim.Native.Nat.{ℕ, _+_, _≤_, _<_}
+use Prim.Native.Nat.{ℕ, _+_, _≤_}
 use mathlib.Core.Path.{_≡_}
 use mathlib.Core.Bool.{Bool, true, false, cond, _||_}
-use mathlib.Core.Option.{some}
 use mathlib.Core.List.{List, [], _∷_, _++_}
 use lib.ListN.{length}
-use lib.Dec.{T, eqb}
-use lib.Pow.{areBytes}
+use lib.Dec.{eqb}
 use Rattle.answers.specs.Written.{lengthOf}
 use Rattle.answers.specs.declared.Written.{Written}
-use Rattle.stream.specs.Event.{message}
+use Rattle.stream.specs.Event.{Event}
 use Rattle.stream.specs.Call.{seenBy}
+use Rattle.stream.specs.Written.{Each}
+use Rattle.stream.specs.Rule.{Settled, readings}
 use Rattle.stream.specs.Family.{Family}
 use Rattle.stream.specs.Demands.{Demands}
-use Rattle.comlynx.specs.Wire.{Message, Takes, payloadMax, body, flag, escape, stuffed, wire}
+use Rattle.comlynx.specs.Wire.{Message, Takes, payloadMax, body, flag, escape, wire}
 use Rattle.comlynx.specs.Rules.{judge, rule}
 use Rattle.comlynx.specs.Machine.{fresh}
 use Rattle.comlynx.specs.Reader.{join, shown, IsStep}
@@ -52,11 +52,23 @@ abbrev pub Stretch : List ℕ → Type 0
 Stretch [] = Unit {0}
 Stretch (b ∷ bs) = (b ≡ flag → ⊥) × Stretch bs
 
--- a stretch that is not empty is judged at the flag that closes it, and shown once: reading goes on after that flag, which opens the next
+-- stretches one after another, each up to and with the flag that closes it, which opens the next
+abbrev pub eachClosed : List (List ℕ) → List ℕ
+eachClosed [] = []
+eachClosed (w ∷ ws) = w ++ (flag ∷ eachClosed ws)
+
+-- each of them judged at that flag, where `at` bytes came before; an empty one gives nothing
+abbrev pub eachJudged : ℕ → List (List ℕ) → List (Settled (Event Message))
+eachJudged at [] = []
+eachJudged at ([] ∷ ws) = eachJudged (at + 1) ws
+eachJudged at ((b ∷ w) ∷ ws) = let n = at + length (b ∷ w) + 1 in record { event = judge (b ∷ w); used = n } ∷ eachJudged n ws
+
+-- EACH STRETCH IS SHOWN ONCE: whatever stands before the first flag and after the last, what is found is each stretch between two successive
+-- flags, judged at the second one, in order
 abbrev pub ShownOnce : Type 0
 ShownOnce =
-    (known : Bool) (w rest : List ℕ) → Stretch w → 0 < length w
-    → rule known (flag ∷ (w ++ (flag ∷ rest))) ≡ some (record { event = judge w; used = length w + 2 })
+    (noise rest : List ℕ) (ws : List (List ℕ)) → Stretch noise → Stretch rest → Each Stretch ws
+    → readings rule true false (noise ++ (flag ∷ (eachClosed ws ++ rest))) ≡ eachJudged (length noise + 1) ws
 
 -- how many bytes stuffing adds
 abbrev pub special : List ℕ → ℕ
