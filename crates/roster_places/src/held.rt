@@ -26,18 +26,24 @@ pub struct HeldRemoved {
 pub fn give_held(places: [Place; PLACES], serial: &[u8]) -> HeldGiven
     ensures { λ r. ⌜ IsGiven places (now (serial .entry)) (r .given) (r .places) ⌝ }
 {
-    let mut places = places;
-    let given = give(&mut places, serial);
-    HeldGiven { places, given }
+    let mut later = places;
+    let given = give(&mut later, serial);
+    HeldGiven {
+        places: later,
+        given,
+    }
 }
 
 // Frees the place of an address, as `remove` does.
 pub fn remove_held(places: [Place; PLACES], address: u8) -> HeldRemoved
     ensures { λ r. ⌜ IsRemoved places address (r .removed) (r .places) ⌝ }
 {
-    let mut places = places;
-    let removed = remove(&mut places, address);
-    HeldRemoved { places, removed }
+    let mut left = places;
+    let removed = remove(&mut left, address);
+    HeldRemoved {
+        places: left,
+        removed,
+    }
 }
 
 // The address of a serial, as `find` tells it.
