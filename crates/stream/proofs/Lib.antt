@@ -4,6 +4,7 @@ pub mod CallsComeTo
 pub mod LoopScans
 pub mod WrittenIsGiven
 pub mod PromiseOfStep
+pub mod InPlaceIsStep
 pub mod HeldIsDelivered
 pub mod HostRelies
 pub mod FamilyFacts

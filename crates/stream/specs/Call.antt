@@ -1,10 +1,10 @@
 -- One call of a family's `step`, for every state, piece and lent buffer: what document 01's table of answers says of a reader.
 use Prim.Native.Nat.{ℕ}
 use mathlib.Core.Path.{_≡_}
-use mathlib.Core.Bool.{Bool, true, cond}
+use mathlib.Core.Bool.{Bool, true, cond, _&&_}
 use mathlib.Core.List.{List, _++_}
 use lib.ListN.{length, drop}
-use lib.Dec.{ltb}
+use lib.Dec.{eqb, ltb}
 use Rattle.stream.specs.Event.{Event, message, damage, Told, done, gives, refuses, number, outcome}
 use Rattle.stream.specs.Pieces.{Moved, Called, scan}
 
@@ -61,6 +61,10 @@ abbrev pub Steps : {S M H R : Type 0} → (S → ℕ → Moved S (Event M)) → 
 Steps next inRange header payload shown s piece lent r later =
     let c = called next inRange s piece lent in
     (shown r ≡ retells header c) × (later ≡ delivered payload (c .told) lent) × (inRange s ≡ true → inRange (shown r .state) ≡ true)
+
+-- where a host lends the held bytes of a state, in range means also that all of them are there
+abbrev pub whole : {S : Type 0} → (S → List ℕ) → ℕ → (S → Bool) → S → Bool
+whole held full inRange s = eqb (length (held s)) full && inRange s
 
 -- what a host sees of a result: a message is its header joined with the data at the front of the lent buffer
 abbrev pub seenBy : {S M H R : Type 0} → (H → List ℕ → M) → (R → Seen S H) → R → List ℕ → Seen S M
