@@ -36,8 +36,8 @@ seeking c = c .before .before .before
 idle : (c : tie.After-hunt Inv-loop μ-loop) → (seeking c .loop .count ≡ 0) × (seeking c .loop .len ≡ 0)
 idle c = range-idle _ _ _ (seeking c .loop .inv .1) (c .before .if1 .taken)
 
-hunted : (c : tie.After-hunt Inv-loop μ-loop) (p : HuntEnd) → c .hunt .result ≡ p → Hunted (seeking c .loop .stage) (seeking c .before .before .args .piece .now) (seeking c .loop .i) p
-hunted c p e = subst (Hunted (seeking c .loop .stage) (seeking c .before .before .args .piece .now) (seeking c .loop .i)) e (c .hunt .ensures)
+hunted : (c : tie.After-hunt Inv-loop μ-loop) (p : HuntEnd) → c .hunt .result ≡ p → Hunted (seeking c .loop .stage) (seeking c .before .before .before .args .piece .now) (seeking c .loop .i) p
+hunted c p e = subst (Hunted (seeking c .loop .stage) (seeking c .before .before .before .args .piece .now) (seeking c .loop .i)) e (c .hunt .ensures)
 
 -- where a byte's move is known: the loop's place, the state before the byte, the piece, how far, and the whole call
 abbrev at : tie.After-advance Inv-loop μ-loop → tie.At-loop Inv-loop μ-loop
@@ -47,13 +47,13 @@ abbrev St : tie.After-advance Inv-loop μ-loop → Reader
 St c = let l = at c .loop in holding (l .stage) (l .count) (l .len) (l .held)
 
 abbrev P : tie.After-advance Inv-loop μ-loop → List ℕ
-P c = at c .before .before .args .piece .now
+P c = at c .before .before .before .args .piece .now
 
 abbrev I : tie.After-advance Inv-loop μ-loop → ℕ
 I c = at c .loop .i
 
 abbrev Whole : tie.After-advance Inv-loop μ-loop → Called Reader (Event Message)
-Whole c = let a = at c .before .before .args in scan next (holding (a .stage) (a .count) (a .len) (a .held .now)) (P c)
+Whole c = let a = at c .before .before .before .args in scan next (holding (a .stage) (a .count) (a .len) (a .held .now)) (P c)
 
 -- what was read is a byte
 byte : (c : tie.After-advance Inv-loop μ-loop) → getD (P c) (I c) 0 < 256
@@ -83,9 +83,9 @@ tells c m x t e f = sym (at c .loop .inv .3) ∙ from-tells next (St c) t x (P c
 
 loop-holds : tie.Need-loop-holds Inv-loop μ-loop
 loop-holds c =
-    let a = c .before .args in (
+    let a = c .before .before .args in (
       omega arith,
-      range-of (a .stage) (a .count) (a .len) (c .before .pre .0),
+      range-of (a .stage) (a .count) (a .len) (c .before .before .pre .0),
       refl,
       from-start next (holding (a .stage) (a .count) (a .len) (a .held .now)) (a .piece .now),
     )
@@ -133,8 +133,8 @@ add-i c = search needs
 enum-told : tie.Need-enum-told Inv-loop μ-loop
 enum-told c = search needs
 
-element-write-held : tie.Need-element-write-held Inv-loop μ-loop
-element-write-held c = let h = asks (c .before .before) Keep (c .enum-told .given .1) in omega arith
+slice-write-held : tie.Need-slice-write-held Inv-loop μ-loop
+slice-write-held c = let h = asks (c .before .before) Keep (c .enum-told .given .1) in omega arith
 
 add-next : tie.Need-add-next Inv-loop μ-loop
 add-next c = let h = asks (c .before .before) Keep (c .enum-told .given .1) in omega arith
@@ -143,23 +143,25 @@ fill-requires : tie.Need-fill-requires Inv-loop μ-loop
 fill-requires c κs =
     let k = c .before .before .before in
     let h = asks k Keep (c .before .enum-told .given .1) in
-    (k .before .before .if1 .left, range-len _ _ _ (at k .loop .inv .1), omega arith, omega arith, simp length-set (at k .loop .inv .2 ∙ at k .before .before .pre .1))
+    (k .before .before .if1 .left, range-len _ _ _ (at k .loop .inv .1), omega arith, omega arith, simp length-set (at k .loop .inv .2 ∙ at k .before .before .before .pre .1))
 
 sub-count : tie.Need-sub-count Inv-loop μ-loop
-sub-count c = c .fill .ensures .forward
+sub-count c = c .before .before .fill .ensures .forward
 
 add-count : tie.Need-add-count Inv-loop μ-loop
-add-count c =
+add-count d =
+    let c = d .before .before in
     let k = c .before .before .before .before in
     let l = at k .loop in
     omega (arith, c .fill .ensures .room, most-small (l .stage) (l .count) (l .len) (k .before .before .if1 .left) (l .inv .1))
 
 loop-less-3 : tie.Need-loop-less-3 Inv-loop μ-loop
-loop-less-3 c = omega (arith, c .fill .ensures .forward, c .fill .ensures .within)
+loop-less-3 d = let c = d .before .before in omega (arith, c .fill .ensures .forward, c .fill .ensures .within)
 
 loop-again-3 : tie.Need-loop-again-3 Inv-loop μ-loop
 unfolding moved
-loop-again-3 c =
+loop-again-3 d =
+    let c = d .before .before in
     let k = c .before .before .before .before in
     let l = at k .loop in
     let f = c .fill .ensures in
@@ -173,8 +175,8 @@ loop-again-3 c =
 enum-told-2 : tie.Need-enum-told-2 Inv-loop μ-loop
 enum-told-2 c = search needs
 
-element-write-held-2 : tie.Need-element-write-held-2 Inv-loop μ-loop
-element-write-held-2 c = let l = at (c .before .before) .loop in omega arith
+slice-write-held-2 : tie.Need-slice-write-held-2 Inv-loop μ-loop
+slice-write-held-2 c = let l = at (c .before .before) .loop in omega arith
 
 cast-len : tie.Need-cast-len Inv-loop μ-loop
 cast-len c = omega (arith, byte (c .before .before))
@@ -194,12 +196,18 @@ loop-again-4 c =
 enum-told-3 : tie.Need-enum-told-3 Inv-loop μ-loop
 enum-told-3 c = search needs
 
+same-length : tie.Need-same-length Inv-loop μ-loop
+same-length c = search needs
+
 returns : tie.Need-returns Inv-loop μ-loop
 unfolding moved
 returns c =
     let k = c .before .before in
     let l = at k .loop in
     record { sized = l .inv .2; fits = range-len _ _ _ (l .inv .1); ranged = in-range _ _ _ (look (omega arith) refl refl); scanned = tells k Close _ _ (c .enum-told3 .given .1) refl }
+
+same-length-2 : tie.Need-same-length-2 Inv-loop μ-loop
+same-length-2 c = search needs
 
 returns-2 : tie.Need-returns-2 Inv-loop μ-loop
 returns-2 c =
@@ -208,7 +216,7 @@ returns-2 c =
       sized = l .inv .2;
       fits = tt;
       ranged = in-range _ _ _ (l .inv .1);
-      scanned = sym (l .inv .3) ∙ from-end next (holding (l .stage) (l .count) (l .len) (l .held)) (c .before .before .before .args .piece .now) (l .i) (c .loop-test .left);
+      scanned = sym (l .inv .3) ∙ from-end next (holding (l .stage) (l .count) (l .len) (l .held)) (c .before .before .before .before .args .piece .now) (l .i) (c .loop-test .left);
     }
 
 pub run-in-spec : {M : Type 1} → statement M
@@ -229,7 +237,7 @@ run-in-spec =
     advance-requires
     add-i
     enum-told
-    element-write-held
+    slice-write-held
     add-next
     fill-requires
     sub-count
@@ -237,10 +245,12 @@ run-in-spec =
     loop-less-3
     loop-again-3
     enum-told-2
-    element-write-held-2
+    slice-write-held-2
     cast-len
     loop-less-4
     loop-again-4
     enum-told-3
+    same-length
     returns
+    same-length-2
     returns-2)
