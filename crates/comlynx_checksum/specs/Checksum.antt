@@ -2,7 +2,7 @@
 -- Assumes nothing.
 use Prim.Native.Nat.{ℕ, zero, suc, _-_, _/_, _%_}
 use mathlib.Core.Path.{_≡_}
-use mathlib.Core.List.{List, [], _∷_}
+use mathlib.Core.List.{List, [], _∷_, _++_}
 use mathlib.Core.Bool.{Bool}
 use lib.Bits.{bitXor}
 use lib.ListN.{length, take, drop}
@@ -74,6 +74,10 @@ agrees l = same (lastTwo l) (sent (others l))
 -- `of`: the checksum of s
 abbrev pub IsOf : List ℕ → ℕ → Type 0
 IsOf s r = r ≡ checksumOf s
+
+-- `of_both`: the checksum of s and t, one after another
+abbrev pub IsOfBoth : List ℕ → List ℕ → ℕ → Type 0
+IsOfBoth s t r = r ≡ checksumOf (s ++ t)
 
 -- `of_first`: the checksum of the first n bytes of s, of all of it where it has fewer
 abbrev pub IsOfFirst : List ℕ → ℕ → ℕ → Type 0

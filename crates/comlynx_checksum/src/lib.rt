@@ -1,7 +1,7 @@
 // The checksum of ComLynx, CRC-16/X-25, of slices of bytes.
 use numbers::least;
 ghost use mathlib.Core.Path.{_≡_};
-ghost use Rattle.comlynx_checksum.specs.Checksum.{checksumNext, IsOf, IsOfFirst, IsMore, IsSentOf};
+ghost use Rattle.comlynx_checksum.specs.Checksum.{checksumNext, IsOf, IsOfBoth, IsOfFirst, IsMore, IsSentOf};
 ghost use Rattle.comlynx_checksum.specs.Table.{checksumTable};
 
 // The state before the first byte.
@@ -309,6 +309,15 @@ pub fn of(bytes: &[u8]) -> u16
     ensures { λ r. ⌜ IsOf (now (bytes .entry)) r ⌝ }
 {
     more(START, bytes)
+}
+
+// The checksum of two slices, one after another. The entries are built once for both: `of` and then `more` would build them twice.
+pub fn of_both(first: &[u8], second: &[u8]) -> u16
+    ensures { λ r. ⌜ IsOfBoth (now (first .entry)) (now (second .entry)) r ⌝ }
+{
+    let entries = table();
+    let after = run(&entries, START, first);
+    run(&entries, after, second)
 }
 
 // The checksum of the first `n` bytes, or of all where there are fewer.
