@@ -10,9 +10,8 @@ use native.Mathlib.Omega.{arith}
 use Rattle.answers.specs.declared.Written.the-variants.{Done, Refused}
 use Rattle.answers.specs.declared.Refusal.the-variants.{TooLong, NoRoom}
 use Rattle.answers.proofs.WriterPromise.{writes-too-long, writes-no-room, writes-done}
-use Rattle.comlynx_checksum.specs.Checksum.{checksumOf, checksumFrom, sentAfter, sent, IsSentOf}
+use Rattle.comlynx_checksum.specs.Checksum.{checksumOf, sentAfter, sent, IsOfBoth, IsSentOf}
 use Rattle.comlynx_checksum.specs.declared.Sent.{Sent}
-use Rattle.comlynx_checksum.proofs.ChecksumByBytes.{of-append}
 use Rattle.stream.proofs.ListLaws.{sets-front}
 use Rattle.comlynx.specs.Wire.{Message, payloadMax, lead, covered, body, stuffed, wire}
 use Rattle.comlynx.specs.Writer.{IsWritten}
@@ -27,9 +26,9 @@ module _ (s d k : ℕ) (bs lent : List ℕ) where
   H = lead s d (length bs) k
 
   -- the two bytes that were asked for
-  pub asked : (h : List ℕ) (f sum : ℕ) (r : Sent) → h ≡ H → f ≡ checksumOf h → sum ≡ checksumFrom f bs → IsSentOf sum r → r .low ∷ r .high ∷ [] ≡ sent (covered M)
+  pub asked : (h : List ℕ) (sum : ℕ) (r : Sent) → h ≡ H → IsOfBoth h bs sum → IsSentOf sum r → r .low ∷ r .high ∷ [] ≡ sent (covered M)
   unfolding sent
-  asked h f sum r q e g i = i ∙ ap sentAfter (g ∙ ap (λ (x : ℕ). checksumFrom x bs) (e ∙ ap checksumOf q) ∙ sym (of-append H bs))
+  asked h sum r q e i = i ∙ ap sentAfter (e ∙ ap (λ (x : List ℕ). checksumOf (x ++ bs)) q)
 
   module _ (h l : List ℕ) (is : h ≡ H) (due : l ≡ sent (covered M)) where
     framed-wire : framed h bs l ≡ wire M

@@ -113,7 +113,7 @@ pub fn write(source: u16, destination: u16, kind: u8, payload: &[u8], lent: &mut
         return Written::Refused(Refusal::TooLong);
     }
     let first = lead_of(source, destination, n as u8, kind);
-    let sum = comlynx_checksum::more(comlynx_checksum::of(&first), payload);
+    let sum = comlynx_checksum::of_both(&first, payload);
     let due = comlynx_checksum::sent_of(sum);
     let last = [due.low, due.high];
     let body = stuffed_len(&first) + stuffed_len(payload) + stuffed_len(&last);

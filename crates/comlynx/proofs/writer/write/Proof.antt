@@ -14,29 +14,29 @@ use Rattle.comlynx.proofs.writer.write.Tie as tie
 
 -- what the call was handed, from where the length is known; the lead and the two checksum bytes, and what they are
 abbrev start : tie.After-stuffed-len3 → tie.Start
-start c = c .before .before .before .before .before .before .before .before .before .before .before .before .before
+start c = c .before .before .before .before .before .before .before .before .before .before .before .before
 
 abbrev sum-at : tie.After-stuffed-len3 → tie.After-sent-of
 sum-at c = c .before .before .before .before .before
 
 abbrev first : tie.After-stuffed-len3 → List ℕ
-first c = sum-at c .before .before .before .before .lead-of .result
+first c = sum-at c .before .before .before .lead-of .result
 
 abbrev last : tie.After-stuffed-len3 → List ℕ
 last c = let d = sum-at c .sent-of .result in d .low ∷ d .high ∷ []
 
 first-is : (c : tie.After-stuffed-len3) → (let a = start c .args in first c ≡ lead (a .source) (a .destination) (length (a .payload .now)) (a .kind))
-first-is c = sum-at c .before .before .before .before .lead-of .ensures
+first-is c = sum-at c .before .before .before .lead-of .ensures
 
 few : (c : tie.After-stuffed-len3) → length (start c .args .payload .now) ≤ payloadMax
-few c = sum-at c .before .before .before .before .before .if1 .left
+few c = sum-at c .before .before .before .before .if1 .left
 
 last-is : (c : tie.After-stuffed-len3)
     → (let a = start c .args in last c ≡ sent (covered (record { source = a .source; destination = a .destination; kind = a .kind; payload = a .payload .now })))
 last-is c =
     let a = start c .args in
     let m = sum-at c .before in
-    asked (a .source) (a .destination) (a .kind) (a .payload .now) (a .lent .now) (first c) (m .before .of .result) (m .more .result) (sum-at c .sent-of .result) (first-is c) (m .before .of .ensures) (m .more .ensures) (sum-at c .sent-of .ensures)
+    asked (a .source) (a .destination) (a .kind) (a .payload .now) (a .lent .now) (first c) (m .of-both .result) (sum-at c .sent-of .result) (first-is c) (m .of-both .ensures) (sum-at c .sent-of .ensures)
 
 -- the length that was worked out
 length-is : (c : tie.After-stuffed-len3)
@@ -55,14 +55,11 @@ cast-lead-of c = search needs
 lead-of-requires : tie.Need-lead-of-requires
 lead-of-requires c κs = search needs
 
-slice-aggregate-of : tie.Need-slice-aggregate-of
-slice-aggregate-of c = search needs
+slice-aggregate-of-both : tie.Need-slice-aggregate-of-both
+slice-aggregate-of-both c = search needs
 
-of-requires : tie.Need-of-requires
-of-requires c κs = search needs
-
-more-requires : tie.Need-more-requires
-more-requires c κs = search needs
+of-both-requires : tie.Need-of-both-requires
+of-both-requires c κs = search needs
 
 sent-of-requires : tie.Need-sent-of-requires
 sent-of-requires c κs = search needs
@@ -127,9 +124,8 @@ write-spec =
     returns
     cast-lead-of
     lead-of-requires
-    slice-aggregate-of
-    of-requires
-    more-requires
+    slice-aggregate-of-both
+    of-both-requires
     sent-of-requires
     slice-aggregate-stuffed-len
     stuffed-len-requires
