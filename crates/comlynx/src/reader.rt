@@ -32,13 +32,13 @@ const SUM: usize = 2;
 
 const BODY: usize = HEADER + PAYLOAD + SUM;
 
-// What the bytes read so far have led to. A field that the stage does not use is 0; what `held` has beyond `count` is left over and means nothing.
+// What the bytes read so far have led to. Before the first flag `count` is 0. What `held` has from `count` on is left over and means nothing.
 pub struct Reader {
     // the unstuffed bytes of the stretch, as far as they have come
     pub held: [u8; BODY],
     // BEFORE, INSIDE, ESCAPED or BROKEN
     pub stage: u8,
-    // how many bytes are held; TOO_MANY where there were more than it holds
+    // how many bytes are held, in a stretch with a broken pair those before it; TOO_MANY where there were more than it holds
     pub count: usize,
 }
 
@@ -362,7 +362,7 @@ fn ends(count: usize, low: u8, high: u8, held: &[u8]) -> bool
     (held[count - SUM] == low) & (held[count - 1] == high)
 }
 
-// How many bytes the checksum takes: all but its own two. A stretch that is too short for them is refused for that.
+// How many bytes the checksum takes: all but its own two. A stretch that is too short for them is a damage, whatever its sum.
 fn covered(count: usize) -> usize
     ensures { λ r. ⌜ r ≡ count - 2 ⌝ }
 {
