@@ -15,7 +15,7 @@ use Rattle.comlynx_checksum.specs.Checksum.{checksumOf, agrees, IsSentOf}
 use Rattle.comlynx_checksum.specs.declared.Sent.{Sent}
 use Rattle.comlynx_checksum.proofs.SentAgrees.{agrees-by-bytes, sent-low, sent-high}
 use Rattle.stream.proofs.ListLaws.{drop-take}
-use Rattle.stream.specs.Event.{message, damage, Told, gives}
+use Rattle.stream.specs.Event.{message, damage, Told, gives, outcome}
 use Rattle.stream.specs.Event as Event
 use Rattle.stream.specs.Call.{retold, delivered}
 use Rattle.stream.proofs.HeldIsDelivered.{Delivers, delivers-held, delivers-told}
@@ -23,8 +23,10 @@ use Rattle.comlynx.specs.Wire.{Message, payloadMax, bodyLeast, bodyMax, 
 use Rattle.comlynx.specs.Rules.{sized, begins, judged}
 use Rattle.comlynx.specs.Machine.{closed}
 use Rattle.comlynx.specs.Reader.{number, told, header}
-use Rattle.comlynx.specs.Inside.{due, JudgedAs, Judges, Small, given}
+use Rattle.comlynx.specs.Inside.{eventOf, due, JudgedAs, Judges, Small, given}
 use Rattle.comlynx.specs.declared.reader.Header.{Header}
+use Rattle.comlynx.specs.declared.reader.End.{End}
+use Rattle.comlynx.specs.declared.reader.End.the-variants.{UsedUp, Closed, Broken}
 use Rattle.comlynx.specs.declared.reader.Answer.{Answer}
 use Rattle.comlynx.specs.declared.reader.Answer.the-variants.{Done, Message as Read, Damaged, Refused}
 use Rattle.comlynx.proofs.StageRanges.{false-true}
@@ -158,6 +160,11 @@ stretch-delivers n right held lent full = go (sized n) (begins (take n held)) (e
         delivers-held header (λ m. m .payload) (λ h. h .len) payloadMax 8 held lent m (omega (arith, count, sized-bounds n f .1))
         (ap (λ (k : ℕ). take k (drop 8 held)) count ∙ sym (held-bytes n held full f))
 
-pub delivers : (n : ℕ) (right : Bool) (held lent : List ℕ) (a : Answer) → length held ≡ bodyMax → JudgedAs (judged n right (take n held)) a
-    → Small a × (given a held lent ≡ delivered (λ (m : Message). m .payload) (gives (judged n right (take n held))) lent)
-delivers n right held lent a full e = delivers-told header (λ m. m .payload) (λ h. h .len) payloadMax 8 held lent (told a) (gives (judged n right (take n held))) e (stretch-delivers n right held lent full)
+end-delivers : (e : End) (held lent : List ℕ) → length held ≡ bodyMax → DeliversTo held lent (outcome (eventOf e held))
+end-delivers UsedUp held lent full = (tt, refl)
+end-delivers (Closed n) held lent full = stretch-delivers n (agrees (take n held)) held lent full
+end-delivers Broken held lent full = (tt, refl)
+
+pub delivers : (e : End) (held lent : List ℕ) (a : Answer) → length held ≡ bodyMax → JudgedAs (eventOf e held) a
+    → Small a × (given a held lent ≡ delivered (λ (m : Message). m .payload) (outcome (eventOf e held)) lent)
+delivers e held lent a full j = delivers-told header (λ m. m .payload) (λ h. h .len) payloadMax 8 held lent (told a) (outcome (eventOf e held)) j (end-delivers e held lent full)

@@ -14,7 +14,7 @@ use Rattle.stream.specs.Pieces.{scan, scanFrom}
 use Rattle.stream.specs.Delivery as Delivery
 use Rattle.comlynx.specs.Wire.{Message, payloadMax, flag, escape, stuffed, bodyMax}
 use Rattle.comlynx.specs.Rules.{judged}
-use Rattle.comlynx.specs.Machine.{inside, inRange, closed, next}
+use Rattle.comlynx.specs.Machine.{holding, inside, inRange, closed, next}
 use Rattle.comlynx.specs.Reader.{told, header}
 use Rattle.comlynx.specs.declared.reader.Header.{Header}
 use Rattle.comlynx.specs.declared.reader.Answer.{Answer}
@@ -52,19 +52,19 @@ pub record Runs (stage count : ℕ) (held piece : List ℕ) (r : Ran) (later : L
   pub sized : length later ≡ length held
   pub ranged : inRange (r .stage) (r .count) ≡ true
   pub scanned :
-      scan next (record { held = held; stage = stage; count = count }) piece
-      ≡ record { state = record { held = later; stage = r .stage; count = r .count }; event = eventOf (r .end) later; used = r .used }
+      scan next (holding stage count held) piece
+      ≡ record { state = holding (r .stage) (r .count) later; event = eventOf (r .end) later; used = r .used }
 
 -- the last two of the first `count` held bytes are those that are due
 abbrev pub due : ℕ → ℕ → ℕ → List ℕ → Bool
 due count low high held = eqb (getD held (count - 2) 0) low && eqb (getD held (count - 1) 0) high
 
 -- `judge`: the answer tells the event
-abbrev pub JudgedAs : Event Message → Answer → Type 0
-JudgedAs event answer = told answer ≡ retold header (Event.outcome (some event))
+abbrev pub JudgedAs : Option (Event Message) → Answer → Type 0
+JudgedAs event answer = told answer ≡ retold header (Event.outcome event)
 
 abbrev pub Judges : ℕ → ℕ → ℕ → List ℕ → Answer → Type 0
-Judges count low high held = JudgedAs (judged count (due count low high held) (take count held))
+Judges count low high held = JudgedAs (some (judged count (due count low high held) (take count held)))
 
 -- `deliver`: a length that is told is one that a message has, and this is the lent buffer afterwards
 abbrev pub Small : Answer → Type 0

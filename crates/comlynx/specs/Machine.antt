@@ -18,21 +18,25 @@ use Rattle.comlynx.specs.declared.reader.Move.the-variants.{Skip, Open, 
 abbrev pub tooMany : ℕ
 tooMany = bodyMax + 1
 
+-- a state by its stage, its count and its held bytes
+abbrev pub holding : ℕ → ℕ → List ℕ → Reader
+holding stage count held = record { held = held; stage = stage; count = count }
+
 -- stage 0: before the first flag
 abbrev pub waiting : List ℕ → Reader
-waiting held = record { held = held; stage = 0; count = 0 }
+waiting held = holding 0 0 held
 
 -- stage 1, in a stretch: its first `count` unstuffed bytes stand at the front of `held`; `tooMany` where they are more than it holds
 abbrev pub inside : ℕ → List ℕ → Reader
-inside count held = record { held = held; stage = 1; count = count }
+inside count held = holding 1 count held
 
 -- stage 2: after its 7D
 abbrev pub escaped : ℕ → List ℕ → Reader
-escaped count held = record { held = held; stage = 2; count = count }
+escaped count held = holding 2 count held
 
 -- stage 3: in a stretch with a broken pair
 abbrev pub broken : ℕ → List ℕ → Reader
-broken count held = record { held = held; stage = 3; count = count }
+broken count held = holding 3 count held
 
 abbrev pub fresh : Reader
 fresh = waiting (replicate bodyMax 0)

@@ -19,8 +19,8 @@ ghost use Rattle.stream.specs.Call.{lentLeast};
 ghost use Rattle.comlynx.specs.Rules.{sized, begins};
 ghost use Rattle.comlynx.specs.Machine.{keepOf, advanceOf, inRange};
 ghost use Rattle.comlynx.specs.Wire.{bodyMax};
-ghost use Rattle.comlynx.specs.Reader.{IsFresh, IsStep};
-ghost use Rattle.comlynx.specs.Inside.{runLength, AllPlain, Filled, Runs, due, Judges, Small, given};
+ghost use Rattle.comlynx.specs.Reader.{IsFresh, IsStep, IsStepInPlace};
+ghost use Rattle.comlynx.specs.Inside.{runLength, AllPlain, Filled, Runs, eventOf, due, Judges, JudgedAs, Small, given};
 
 // The limits, named here because the reader's own constants cannot size its own array. FF 03, source, destination, size and type come before the data.
 const HEADER: usize = 8;
@@ -63,6 +63,14 @@ pub enum Answer {
 // What a call hands back: the reader to go on with, the answer, and how many bytes of the piece were used.
 pub struct Step {
     pub reader: Reader,
+    pub answer: Answer,
+    pub used: usize,
+}
+
+// What a call over lent held bytes hands back: the rest of the reader to go on with, the answer, and how many bytes of the piece were used.
+pub struct StepInPlace {
+    pub stage: u8,
+    pub count: usize,
     pub answer: Answer,
     pub used: usize,
 }
@@ -213,7 +221,7 @@ fn plain(s: &[u8], at: usize) -> bool
 }
 
 // Takes in the next RUN bytes, which are plain.
-fn take_in(count: usize, held: &mut [u8; BODY], piece: &[u8], at: usize)
+fn take_in(count: usize, held: &mut [u8], piece: &[u8], at: usize)
     requires { ⌜ (count + runLength ≤ bodyMax) × (at + runLength ≤ length (now piece)) × (length (now held) ≡ bodyMax) × AllPlain (now piece) at runLength ⌝ }
     ensures { λ _. ⌜ Filled count (now (held .entry)) (now (piece .entry)) at (at + runLength) (now (held .exit)) ⌝ }
 {
@@ -225,7 +233,7 @@ fn take_in(count: usize, held: &mut [u8; BODY], piece: &[u8], at: usize)
 }
 
 // Takes in plain bytes from `from` on by runs, up to `stop` at most; gives the index after the last.
-fn fill_runs(count: usize, held: &mut [u8; BODY], piece: &[u8], from: usize, stop: usize) -> usize
+fn fill_runs(count: usize, held: &mut [u8], piece: &[u8], from: usize, stop: usize) -> usize
     requires { ⌜ (from ≤ stop) × (stop ≤ length (now piece)) × (count + (stop - from) ≤ bodyMax) × (length (now held) ≡ bodyMax) ⌝ }
     ensures { λ r. ⌜ (r ≤ stop) × Filled count (now (held .entry)) (now (piece .entry)) from r (now (held .exit)) ⌝ }
 {
@@ -244,7 +252,7 @@ fn fill_runs(count: usize, held: &mut [u8; BODY], piece: &[u8], from: usize, sto
 }
 
 // The same byte by byte.
-fn fill_bytes(count: usize, held: &mut [u8; BODY], piece: &[u8], from: usize, stop: usize) -> usize
+fn fill_bytes(count: usize, held: &mut [u8], piece: &[u8], from: usize, stop: usize) -> usize
     requires { ⌜ (from ≤ stop) × (stop ≤ length (now piece)) × (count + (stop - from) ≤ bodyMax) × (length (now held) ≡ bodyMax) ⌝ }
     ensures { λ r. ⌜ (r ≤ stop) × Filled count (now (held .entry)) (now (piece .entry)) from r (now (held .exit)) ⌝ }
 {
@@ -263,7 +271,7 @@ fn fill_bytes(count: usize, held: &mut [u8; BODY], piece: &[u8], from: usize, st
 }
 
 // Takes in plain bytes from `from` on while there is room; gives the index after the last.
-fn fill(count: usize, held: &mut [u8; BODY], piece: &[u8], from: usize) -> usize
+fn fill(count: usize, held: &mut [u8], piece: &[u8], from: usize) -> usize
     requires { ⌜ (count ≤ bodyMax) × (from ≤ length (now piece)) × (length (now held) ≡ bodyMax) ⌝ }
     ensures { λ r. ⌜ Filled count (now (held .entry)) (now (piece .entry)) from r (now (held .exit)) ⌝ }
 {
@@ -275,7 +283,7 @@ fn fill(count: usize, held: &mut [u8; BODY], piece: &[u8], from: usize) -> usize
 
 // The piece, byte by byte, up to the flag that settles something or the end of the piece. It knows no checksum.
 // It is long because each move has its arm here: a call from an arm would have to lend the whole state.
-fn run_in(stage: u8, count: usize, held: &mut [u8; BODY], piece: &[u8]) -> Ran
+fn run_in(stage: u8, count: usize, held: &mut [u8], piece: &[u8]) -> Ran
     requires { ⌜ (inRange stage count ≡ true) × (length (now held) ≡ bodyMax) ⌝ }
     ensures { λ r. ⌜ Runs stage count (now (held .entry)) (now (piece .entry)) r (now (held .exit)) ⌝ }
 {
@@ -398,6 +406,22 @@ fn judge_frame(count: usize, low: u8, high: u8, held: &[u8]) -> Answer
     Answer::Message(header)
 }
 
+// What the end of a run comes to. The checksum is asked for here, once where a stretch closes.
+fn judge(end: End, held: &[u8]) -> Answer
+    requires { ⌜ length (now held) ≡ bodyMax ⌝ }
+    ensures { λ r. ⌜ JudgedAs (eventOf end (now (held .entry))) r ⌝ }
+{
+    match end {
+        End::UsedUp => Answer::Done,
+        End::Closed(n) => {
+            let sum = comlynx_checksum::of_first(held, covered(n));
+            let due = comlynx_checksum::sent_of(sum);
+            judge_frame(n, due.low, due.high, held)
+        }
+        End::Broken => Answer::Damaged(Damage::BrokenPair),
+    }
+}
+
 // A message's data go to the front of the lent buffer.
 fn deliver(answer: Answer, held: &[u8], lent: &mut [u8])
     requires { ⌜ Small answer × (length (now held) ≡ bodyMax) × (lentLeast ≤ length (now lent)) ⌝ }
@@ -412,6 +436,48 @@ fn deliver(answer: Answer, held: &[u8], lent: &mut [u8])
         Answer::Done => {}
         Answer::Damaged(_) => {}
         Answer::Refused(_) => {}
+    }
+}
+
+// The call of `Reader::step` for a host that leaves the held bytes where they are and lends them: none of them is copied. A reader has BODY of
+// them, so any other number of them is a spoilt state.
+pub fn step_in_place(
+    stage: u8,
+    count: usize,
+    held: &mut [u8],
+    piece: &[u8],
+    lent: &mut [u8],
+) -> StepInPlace
+    ensures { λ r. ⌜ IsStepInPlace stage count (now (held .entry)) (now (piece .entry)) (now (lent .entry)) r (now (held .exit)) (now (lent .exit)) ⌝ }
+{
+    let whole = (held.len() == BODY) & in_range(stage, count);
+    if !whole {
+        let answer = Answer::Refused(Refusal::Spoilt);
+        return StepInPlace {
+            stage,
+            count,
+            answer,
+            used: 0,
+        };
+    }
+    if lent.len() < Reader::LENT {
+        let answer = Answer::Refused(Refusal::NoRoom);
+        return StepInPlace {
+            stage,
+            count,
+            answer,
+            used: 0,
+        };
+    }
+    let ran = run_in(stage, count, held, piece);
+    let end = ran.end;
+    let answer = judge(end, &*held);
+    deliver(answer, &*held, lent);
+    StepInPlace {
+        stage: ran.stage,
+        count: ran.count,
+        answer,
+        used: ran.used,
     }
 }
 
@@ -437,62 +503,21 @@ impl Reader {
     }
 
     // One call on a piece: up to the first message or damage, or to the piece's end. With a message its data stand at the front of `lent`.
-    // The checksum is asked for here, once where a stretch closes. The function is long because it builds its result at each of five ends: another function
-    // that built it would copy the reader.
-    pub fn step(mut self, piece: &[u8], lent: &mut [u8]) -> Step
+    pub fn step(self, piece: &[u8], lent: &mut [u8]) -> Step
         ensures { λ r. ⌜ IsStep self (now (piece .entry)) (now (lent .entry)) r (now (lent .exit)) ⌝ }
     {
-        let stage = self.stage;
-        let count = self.count;
-        if !in_range(stage, count) {
-            let answer = Answer::Refused(Refusal::Spoilt);
-            return Step {
-                reader: self,
-                answer,
-                used: 0,
-            };
-        }
-        if lent.len() < Reader::LENT {
-            let answer = Answer::Refused(Refusal::NoRoom);
-            return Step {
-                reader: self,
-                answer,
-                used: 0,
-            };
-        }
-        let ran = run_in(stage, count, &mut self.held, piece);
-        self.stage = ran.stage;
-        self.count = ran.count;
-        let used = ran.used;
-        let end = ran.end;
-        match end {
-            End::UsedUp => {
-                let answer = Answer::Done;
-                Step {
-                    reader: self,
-                    answer,
-                    used,
-                }
-            }
-            End::Closed(n) => {
-                let sum = comlynx_checksum::of_first(&self.held, covered(n));
-                let due = comlynx_checksum::sent_of(sum);
-                let answer = judge_frame(n, due.low, due.high, &self.held);
-                deliver(answer, &self.held, lent);
-                Step {
-                    reader: self,
-                    answer,
-                    used,
-                }
-            }
-            End::Broken => {
-                let answer = Answer::Damaged(Damage::BrokenPair);
-                Step {
-                    reader: self,
-                    answer,
-                    used,
-                }
-            }
+        let mut held = self.held;
+        let s = step_in_place(self.stage, self.count, &mut held, piece, lent);
+        let reader = Reader {
+            held,
+            stage: s.stage,
+            count: s.count,
+        };
+        let answer = s.answer;
+        Step {
+            reader,
+            answer,
+            used: s.used,
         }
     }
 }

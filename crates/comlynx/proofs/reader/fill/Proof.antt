@@ -28,10 +28,14 @@ add-at c = search needs
 fill-bytes-requires : tie.Need-fill-bytes-requires
 fill-bytes-requires c κs = search needs
 
+same-length : tie.Need-same-length
+same-length c = search needs
+
 returns : tie.Need-returns
-returns c =
-    let a = c .before .before .before .before .before .before .args in
-    let r = c .before .before .fill-runs in
+returns d =
+    let c = d .before .before in
+    let a = c .before .before .before .before .before .before .before .before .before .args in
+    let r = c .before .before .before .before .fill-runs in
     filled-more (a .count) (a .held .now) (a .piece .now) (a .from) (r .result) _ _ _ _ refl (r .ensures .1) (c .fill-bytes .ensures .1)
 
 pub fill-spec : {M : Type 1} → statement M
@@ -46,4 +50,5 @@ fill-spec =
     sub-at
     add-at
     fill-bytes-requires
+    same-length
     returns)

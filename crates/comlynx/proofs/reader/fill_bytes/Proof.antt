@@ -21,8 +21,8 @@ loop-holds c =
 shared-slice-read-b : tie.Need-shared-slice-read-b Inv-loop μ-loop
 shared-slice-read-b c = search needs
 
-element-write-held : tie.Need-element-write-held Inv-loop μ-loop
-element-write-held c =
+slice-write-held : tie.Need-slice-write-held Inv-loop μ-loop
+slice-write-held c =
     let l = c .before .before .before .loop in
     omega (arith, l .inv .2 .forward, l .inv .2 .sized)
 
@@ -45,8 +45,14 @@ loop-again c =
     let one = filled-one (l .at) (l .held) (a .piece .now) (l .i) (omega arith) (omega (arith, f .forward)) (plain-of _ (c .if1 .left)) in
     (omega arith, omega (arith, f .forward), filled-more (a .count) (a .held .now) (a .piece .now) (a .from) (l .i) (l .held) (l .at) _ _ (l .inv .1) f one)
 
+same-length : tie.Need-same-length Inv-loop μ-loop
+same-length c = search needs
+
 returns : tie.Need-returns Inv-loop μ-loop
 returns c = (c .before .loop .inv .0, c .before .loop .inv .2)
+
+same-length-2 : tie.Need-same-length-2 Inv-loop μ-loop
+same-length-2 c = search needs
 
 returns-2 : tie.Need-returns-2 Inv-loop μ-loop
 returns-2 c = (c .before .before .before .loop .inv .0, c .before .before .before .loop .inv .2)
@@ -59,10 +65,12 @@ fill-bytes-spec =
     μ-loop
     loop-holds
     shared-slice-read-b
-    element-write-held
+    slice-write-held
     add-at
     add-i
     loop-less
     loop-again
+    same-length
     returns
+    same-length-2
     returns-2)

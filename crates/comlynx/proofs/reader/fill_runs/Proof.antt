@@ -15,7 +15,7 @@ abbrev μ-loop : tie.MeasureT-loop
 
 loop-holds : tie.Need-loop-holds Inv-loop μ-loop
 loop-holds c =
-    let a = c .before .args in
+    let a = c .before .before .args in
     (omega arith, omega arith, filled-none (a .count) (a .held .now) (a .piece .now) (a .from) (omega arith) (omega arith))
 
 sub-loop : tie.Need-sub-loop Inv-loop μ-loop
@@ -28,10 +28,10 @@ take-in-requires : tie.Need-take-in-requires Inv-loop μ-loop
 take-in-requires c κs =
     let l = c .before .before .before .before .loop in
     let f = l .inv .2 in
-    (omega (arith, f .forward), omega arith, f .sized ∙ c .before .before .before .before .before .before .pre .3, c .before .before .plain .ensures (c .before .if1 .taken))
+    (omega (arith, f .forward), omega arith, f .sized ∙ c .before .before .before .before .before .before .before .pre .3, c .before .before .plain .ensures (c .before .if1 .taken))
 
 add-at : tie.Need-add-at Inv-loop μ-loop
-add-at c = omega (arith, c .take-in .ensures .room)
+add-at c = omega (arith, c .before .before .take-in .ensures .room)
 
 add-i : tie.Need-add-i Inv-loop μ-loop
 add-i c = search needs
@@ -40,14 +40,21 @@ loop-less : tie.Need-loop-less Inv-loop μ-loop
 loop-less c = search needs
 
 loop-again : tie.Need-loop-again Inv-loop μ-loop
-loop-again c =
+loop-again d =
+    let c = d .before .before in
     let l = c .before .before .before .before .before .loop in
-    let a = c .before .before .before .before .before .before .before .args in
+    let a = c .before .before .before .before .before .before .before .before .args in
     let f = l .inv .2 in
     (omega arith, omega (arith, f .forward), filled-more (a .count) (a .held .now) (a .piece .now) (a .from) (l .i) (l .held) (l .at) _ _ (l .inv .1) f (c .take-in .ensures))
 
+same-length : tie.Need-same-length Inv-loop μ-loop
+same-length c = search needs
+
 returns : tie.Need-returns Inv-loop μ-loop
 returns c = (c .before .loop .inv .0, c .before .loop .inv .2)
+
+same-length-2 : tie.Need-same-length-2 Inv-loop μ-loop
+same-length-2 c = search needs
 
 returns-2 : tie.Need-returns-2 Inv-loop μ-loop
 returns-2 c = (c .before .before .before .loop .inv .0, c .before .before .before .loop .inv .2)
@@ -66,5 +73,7 @@ fill-runs-spec =
     add-i
     loop-less
     loop-again
+    same-length
     returns
+    same-length-2
     returns-2)

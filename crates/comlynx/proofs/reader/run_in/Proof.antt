@@ -29,9 +29,9 @@ abbrev μ-loop : tie.MeasureT-loop
 
 loop-holds : tie.Need-loop-holds Inv-loop μ-loop
 loop-holds c =
-    let a = c .before .args in (
+    let a = c .before .before .args in (
       omega arith,
-      range-of (a .stage) (a .count) (c .before .pre .0),
+      range-of (a .stage) (a .count) (c .before .before .pre .0),
       refl,
       from-start next (record { held = a .held .now; stage = a .stage; count = a .count }) (a .piece .now),
     )
@@ -44,13 +44,13 @@ abbrev St : tie.After-advance Inv-loop μ-loop → Reader
 St c = let l = at c .loop in record { held = l .held; stage = l .stage; count = l .count }
 
 abbrev P : tie.After-advance Inv-loop μ-loop → List ℕ
-P c = at c .before .before .args .piece .now
+P c = at c .before .before .before .args .piece .now
 
 abbrev I : tie.After-advance Inv-loop μ-loop → ℕ
 I c = at c .loop .i
 
 abbrev Whole : tie.After-advance Inv-loop μ-loop → Called Reader (Event Message)
-Whole c = let a = at c .before .before .args in scan next (record { held = a .held .now; stage = a .stage; count = a .count }) (P c)
+Whole c = let a = at c .before .before .before .args in scan next (record { held = a .held .now; stage = a .stage; count = a .count }) (P c)
 
 -- what the move says of the state, and what the byte does
 few : (c : tie.After-advance Inv-loop μ-loop) → at c .loop .count ≤ tooMany
@@ -131,8 +131,8 @@ loop-again-4 c =
 enum-known-m : tie.Need-enum-known-m Inv-loop μ-loop
 enum-known-m c = search needs
 
-element-write-held : tie.Need-element-write-held Inv-loop μ-loop
-element-write-held c = let h = kept (c .before .before .before) _ (c .before .m .given .1) in omega arith
+slice-write-held : tie.Need-slice-write-held Inv-loop μ-loop
+slice-write-held c = let h = kept (c .before .before .before) _ (c .before .m .given .1) in omega arith
 
 add-next : tie.Need-add-next Inv-loop μ-loop
 add-next c = let h = kept (c .before .before .before) _ (c .before .m .given .1) in omega arith
@@ -141,20 +141,21 @@ fill-requires : tie.Need-fill-requires Inv-loop μ-loop
 fill-requires c κs =
     let k = c .before .before .before .before in
     let h = kept k _ (c .before .before .m .given .1) in
-    (omega arith, omega arith, simp length-set (at k .loop .inv .2 ∙ at k .before .before .pre .1))
+    (omega arith, omega arith, simp length-set (at k .loop .inv .2 ∙ at k .before .before .before .pre .1))
 
 sub-count : tie.Need-sub-count Inv-loop μ-loop
-sub-count c = c .fill .ensures .forward
+sub-count c = c .before .before .fill .ensures .forward
 
 add-count : tie.Need-add-count Inv-loop μ-loop
-add-count c = omega (arith, c .fill .ensures .room)
+add-count c = omega (arith, c .before .before .fill .ensures .room)
 
 loop-less-5 : tie.Need-loop-less-5 Inv-loop μ-loop
-loop-less-5 c = omega (arith, c .fill .ensures .forward, c .fill .ensures .within)
+loop-less-5 c = omega (arith, c .before .before .fill .ensures .forward, c .before .before .fill .ensures .within)
 
 loop-again-5 : tie.Need-loop-again-5 Inv-loop μ-loop
 unfolding moved
-loop-again-5 c =
+loop-again-5 d =
+    let c = d .before .before in
     let k = c .before .before .before .before .before in
     let e = c .before .before .before .m .given .1 in
     let f = c .fill .ensures in
@@ -175,6 +176,9 @@ loop-again-6 c =
 enum-told-6 : tie.Need-enum-told-6 Inv-loop μ-loop
 enum-told-6 c = search needs
 
+same-length : tie.Need-same-length Inv-loop μ-loop
+same-length c = search needs
+
 returns : tie.Need-returns Inv-loop μ-loop
 unfolding moved
 returns c =
@@ -184,11 +188,17 @@ returns c =
 enum-told-7 : tie.Need-enum-told-7 Inv-loop μ-loop
 enum-told-7 c = search needs
 
+same-length-2 : tie.Need-same-length-2 Inv-loop μ-loop
+same-length-2 c = search needs
+
 returns-2 : tie.Need-returns-2 Inv-loop μ-loop
 unfolding moved
 returns-2 c =
     let k = c .before .before in
     record { sized = at k .loop .inv .2; ranged = in-range _ _ (within (omega arith) (omega arith) (omega arith)); scanned = tells k Fail _ _ (c .enum-told7 .given .1) refl }
+
+same-length-3 : tie.Need-same-length-3 Inv-loop μ-loop
+same-length-3 c = search needs
 
 returns-3 : tie.Need-returns-3 Inv-loop μ-loop
 returns-3 c =
@@ -196,7 +206,7 @@ returns-3 c =
     record {
       sized = l .inv .2;
       ranged = in-range _ _ (l .inv .1);
-      scanned = sym (l .inv .3) ∙ from-end next (record { held = l .held; stage = l .stage; count = l .count }) (c .before .before .before .args .piece .now) (l .i) (c .loop-test .left);
+      scanned = sym (l .inv .3) ∙ from-end next (record { held = l .held; stage = l .stage; count = l .count }) (c .before .before .before .before .args .piece .now) (l .i) (c .loop-test .left);
     }
 
 pub run-in-spec : {M : Type 1} → statement M
@@ -222,7 +232,7 @@ run-in-spec =
     loop-less-4
     loop-again-4
     enum-known-m
-    element-write-held
+    slice-write-held
     add-next
     fill-requires
     sub-count
@@ -233,7 +243,10 @@ run-in-spec =
     loop-less-6
     loop-again-6
     enum-told-6
+    same-length
     returns
     enum-told-7
+    same-length-2
     returns-2
+    same-length-3
     returns-3)

@@ -31,8 +31,8 @@ shared-slice-read-held c = search needs
 add-held-2 : tie.Need-add-held-2 Inv-loop μ-loop
 add-held-2 c = search needs
 
-element-write-held : tie.Need-element-write-held Inv-loop μ-loop
-element-write-held c = omega (arith, c .before .before .loop .inv .1 .sized)
+slice-write-held : tie.Need-slice-write-held Inv-loop μ-loop
+slice-write-held c = omega (arith, c .before .before .loop .inv .1 .sized)
 
 add-k : tie.Need-add-k Inv-loop μ-loop
 add-k c = search needs
@@ -48,6 +48,9 @@ loop-again c =
     let one = filled-one (a .count + l .k) (l .held) (a .piece .now) (a .at + l .k) (omega arith) (omega arith) (c .before .before .before .pre .3 (l .k) (omega arith)) in
     let more = filled-more (a .count) (a .held .now) (a .piece .now) (a .at) (a .at + l .k) (l .held) (a .count + l .k) _ _ (omega arith) (l .inv .1) one in
     (omega arith, subst (λ (j : ℕ). Filled (a .count) (a .held .now) (a .piece .now) (a .at) j (set (l .held) (a .count + l .k) b)) (add-assoc (a .at) (l .k) 1) more)
+
+same-length : tie.Need-same-length Inv-loop μ-loop
+same-length c = search needs
 
 returns : tie.Need-returns Inv-loop μ-loop
 returns c =
@@ -66,8 +69,9 @@ take-in-spec =
     add-held
     shared-slice-read-held
     add-held-2
-    element-write-held
+    slice-write-held
     add-k
     loop-less
     loop-again
+    same-length
     returns)

@@ -1,0 +1,70 @@
+use Rattle.comlynx_checksum.specs.Checksum.{checksumOf}
+use Rattle.stream.specs.Event.{Event, gives, outcome}
+use Rattle.stream.specs.Call.{retold}
+use Rattle.comlynx.specs.Wire.{Message}
+use Rattle.comlynx.specs.Reader.{header}
+use Rattle.comlynx.specs.Inside.{eventOf}
+use Rattle.comlynx.specs.declared.reader.End.{End}
+use Rattle.comlynx.proofs.JudgedIsDelivered.{closes}
+use Prim.Native.Nat.{ℕ}
+use mathlib.Core.Path.{sym, _∙_, ap}
+use lib.ListN.{take}
+use borrow.Author.Needs.{needs}
+use Rattle.comlynx.proofs.reader.judge.Statement.{statement}
+use Rattle.comlynx.proofs.reader.judge.Tie as tie
+
+enum-told : tie.Need-enum-told
+enum-told c = search needs
+
+enum-known-end : tie.Need-enum-known-end
+enum-known-end c = search needs
+
+covered-requires : tie.Need-covered-requires
+covered-requires c κs = search needs
+
+of-first-requires : tie.Need-of-first-requires
+of-first-requires c κs = search needs
+
+sent-of-requires : tie.Need-sent-of-requires
+sent-of-requires c κs = search needs
+
+judge-frame-requires : tie.Need-judge-frame-requires
+judge-frame-requires c κs = search needs
+
+enum-told-2 : tie.Need-enum-told-2
+enum-told-2 c = search needs
+
+returns : tie.Need-returns
+returns c = ap (λ (e : End). retold header (outcome (eventOf e (c .before .before .before .args .held .now)))) (sym (c .enum-told .given .1))
+
+-- a stretch that closed is judged by what is due
+returns-2 : tie.Need-returns-2
+returns-2 c =
+    let d = c .before .sent-of in
+    let q = c .before .before in
+    let e = q .before .before .before in
+    let s = e .before .before .before in
+    let n = e .end .given .0 .0 in
+    let held = s .args .held .now in
+    let sum = q .of-first .ensures ∙ ap (λ (k : ℕ). checksumOf (take k held)) (q .before .covered .ensures) in
+    c .judge-frame .ensures
+    ∙ ap (λ (x : Event Message). retold header (gives x)) (sym (closes n (q .of-first .result) held (d .result) (s .pre) sum (d .ensures)))
+    ∙ ap (λ (x : End). retold header (outcome (eventOf x held))) (sym (e .end .given .1))
+
+returns-3 : tie.Need-returns-3
+returns-3 c = ap (λ (e : End). retold header (outcome (eventOf e (c .before .before .before .args .held .now)))) (sym (c .enum-told2 .given .1))
+
+pub judge-spec : {M : Type 1} → statement M
+judge-spec =
+    tie.close
+    (tie.spec
+    enum-told
+    enum-known-end
+    covered-requires
+    of-first-requires
+    sent-of-requires
+    judge-frame-requires
+    enum-told-2
+    returns
+    returns-2
+    returns-3)
