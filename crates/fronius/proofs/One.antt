@@ -13,12 +13,13 @@ use Rattle.stream.specs.Event.{message, damage, Told, done, gives, refuses}
 use Rattle.stream.specs.Call.{Seen}
 use Rattle.stream.proofs.PromiseOfStep.{steps-one}
 use Rattle.fronius.specs.Wire.{payloadMax, wire}
-use Rattle.fronius.specs.Machine.{next}
-use Rattle.fronius.specs.Reader.{inRange, header, told, shown, IsFresh, IsStep}
+use Rattle.fronius.specs.Machine.{holding, next}
+use Rattle.fronius.specs.Reader.{inRange, whole, header, told, shown, together, IsFresh, IsStep, IsStepInPlace}
 use Rattle.fronius.specs.Writer.{IsWritten}
 use Rattle.fronius.specs.declared.reader.Reader.{Reader}
 use Rattle.fronius.specs.declared.reader.Header.{Header}
 use Rattle.fronius.specs.declared.reader.Step.{Step}
+use Rattle.fronius.specs.declared.reader.StepInPlace.{StepInPlace}
 use Rattle.fronius.specs.declared.reader.Answer.{Answer}
 use Rattle.fronius.specs.declared.reader.Answer.the-variants.{Done, Message as Read, Damaged, Refused}
 
@@ -56,6 +57,18 @@ pub step-one : (s : Reader) (piece lent a b : List ℕ) (q r : Step) → IsStep 
 step-one s piece lent a b q r x y =
     let one = steps-one next inRange header (λ m. m .payload) shown s piece lent a b q r x y in
     (shown-alike q r (one .0), one .1)
+
+-- what is put together alike has the same parts
+apart : Step → StepInPlace
+apart r = record { stage = r .reader .stage; count = r .reader .count; len = r .reader .len; answer = r .answer; used = r .used }
+
+pub step-in-place-one : (stage count len : ℕ) (held piece lent x y a b : List ℕ) (q r : StepInPlace)
+    → IsStepInPlace stage count len held piece lent q x a → IsStepInPlace stage count len held piece lent r y b → (q ≡ r) × (x ≡ y) × (a ≡ b)
+unfolding apart
+step-in-place-one stage count len held piece lent x y a b q r f g =
+    let one = steps-one next whole header (λ m. m .payload) shown (holding stage count len held) piece lent a b (together x q) (together y r) f g in
+    let same = shown-alike (together x q) (together y r) (one .0) in
+    (ap apart same, ap (λ (s : Step). s .reader .held) same, one .1)
 
 pub write-one : (device number command : ℕ) (payload lent a b : List ℕ) (v w : Written) → IsWritten device number command payload lent v a → IsWritten device number command payload lent w b
     → (v ≡ w) × (a ≡ b)

@@ -12,7 +12,7 @@ use Rattle.stream.specs.Pieces.{scan, scanFrom}
 use Rattle.stream.specs.Delivery as Delivery
 use Rattle.fronius.specs.Wire.{Message, payloadMax, mark}
 use Rattle.fronius.specs.Rules.{judged}
-use Rattle.fronius.specs.Machine.{filling, inRange, next}
+use Rattle.fronius.specs.Machine.{holding, filling, inRange, next}
 use Rattle.fronius.specs.Reader.{told, header}
 use Rattle.fronius.specs.declared.reader.Header.{Header}
 use Rattle.fronius.specs.declared.reader.Answer.{Answer}
@@ -50,8 +50,8 @@ pub record Runs (stage count len : ℕ) (held piece : List ℕ) (r : Ran) (later
   pub fits : Fits (r .end)
   pub ranged : inRange (r .stage) (r .count) (r .len) ≡ true
   pub scanned :
-      scan next (record { held = held; stage = stage; count = count; len = len }) piece
-      ≡ record { state = record { held = later; stage = r .stage; count = r .count; len = r .len }; event = eventOf (r .end) later; used = r .used }
+      scan next (holding stage count len held) piece
+      ≡ record { state = holding (r .stage) (r .count) (r .len) later; event = eventOf (r .end) later; used = r .used }
 
 -- `judge`: the answer tells the event
 abbrev pub JudgedAs : Option (Event Message) → Answer → Type 0

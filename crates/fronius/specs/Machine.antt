@@ -13,13 +13,16 @@ use Rattle.fronius.specs.declared.reader.Reader.{Reader}
 use Rattle.fronius.specs.declared.reader.Move.{Move}
 use Rattle.fronius.specs.declared.reader.Move.the-variants.{Count, Open, Keep, Close, Bad}
 
+abbrev pub holding : ℕ → ℕ → ℕ → List ℕ → Reader
+holding stage count len held = record { held = held; stage = stage; count = count; len = len }
+
 -- stage 0, the start: `count` successive 80 have come, 3 meaning that the length comes next
 abbrev pub counting : ℕ → List ℕ → Reader
-counting count held = record { held = held; stage = 0; count = count; len = 0 }
+counting count held = holding 0 count 0 held
 
 -- stage 1, the body: of 3 + len bytes `count` have come, and stand at the front of `held`
 abbrev pub filling : ℕ → ℕ → List ℕ → Reader
-filling count len held = record { held = held; stage = 1; count = count; len = len }
+filling count len held = holding 1 count len held
 
 -- device, number, command and data: what a reader holds
 abbrev pub heldMax : ℕ
@@ -51,9 +54,9 @@ abbrev pub tells : Event Message → List ℕ → Moved Reader (Event Message)
 tells e held = record { state = counting 0 held; event = some e }
 
 unfoldable pub moved : Move → Reader → ℕ → Moved Reader (Event Message)
-moved (Count n) s b = on (record { held = s .held; stage = s .stage; count = n; len = s .len })
+moved (Count n) s b = on (holding (s .stage) n (s .len) (s .held))
 moved (Open n) s b = on (filling 0 n (s .held))
-moved Keep s b = on (record { held = set (s .held) (s .count) b; stage = s .stage; count = s .count + 1; len = s .len })
+moved Keep s b = on (holding (s .stage) (s .count + 1) (s .len) (set (s .held) (s .count) b))
 moved Close s b = tells (judged (s .len) (take (3 + s .len) (s .held)) b) (s .held)
 moved Bad s b = tells (damage 7) (s .held)
 

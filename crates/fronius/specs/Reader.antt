@@ -8,11 +8,13 @@ use Rattle.answers.specs.Refusal as Refusal
 use Rattle.answers.specs.Damage as Damage
 use Rattle.stream.specs.Event.{message, damage, Told, done, gives, refuses}
 use Rattle.stream.specs.Call.{Seen, Steps}
+use Rattle.stream.specs.Call as Call
 use Rattle.fronius.specs.Wire.{Message}
 use Rattle.fronius.specs.Machine as Machine
 use Rattle.fronius.specs.declared.reader.Reader.{Reader}
 use Rattle.fronius.specs.declared.reader.Header.{Header}
 use Rattle.fronius.specs.declared.reader.Step.{Step}
+use Rattle.fronius.specs.declared.reader.StepInPlace.{StepInPlace}
 use Rattle.fronius.specs.declared.reader.Answer.{Answer}
 use Rattle.fronius.specs.declared.reader.Answer.the-variants.{Done, Message as Read, Damaged, Refused}
 
@@ -51,3 +53,18 @@ IsFresh r = r ≡ Machine.fresh
 -- what `Reader::step` promises, of state, piece, lent buffer, result and the buffer afterwards
 abbrev pub IsStep : Reader → List ℕ → List ℕ → Step → List ℕ → Type 0
 IsStep = Steps Machine.next inRange header (λ m. m .payload) shown
+
+-- ---- the same call on a state in parts, whose held bytes are lent
+
+abbrev pub whole : Reader → Bool
+whole = Call.whole (λ s. s .held) Machine.heldMax inRange
+
+-- what it hands back is a step, with the held bytes put to it
+abbrev pub together : List ℕ → StepInPlace → Step
+together held r = record { reader = Machine.holding (r .stage) (r .count) (r .len) held; answer = r .answer; used = r .used }
+
+-- what `step_in_place` promises, of the parts, piece, lent buffer, result, and the held bytes and the buffer afterwards:
+-- what `step` promises of the state put together
+abbrev pub IsStepInPlace : ℕ → ℕ → ℕ → List ℕ → List ℕ → List ℕ → StepInPlace → List ℕ → List ℕ → Type 0
+IsStepInPlace stage count len held piece lent r heldLater later =
+    Steps Machine.next whole header (λ m. m .payload) shown (Machine.holding stage count len held) piece lent (together heldLater r) later

@@ -6,4 +6,6 @@ pub use reader::Answer;
 pub use reader::Header;
 pub use reader::Reader;
 pub use reader::Step;
+pub use reader::StepInPlace;
+pub use reader::step_in_place;
 pub use writer::write;

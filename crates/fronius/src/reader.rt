@@ -18,7 +18,7 @@ ghost use Rattle.stream.specs.Call.{lentLeast};
 ghost use Rattle.fronius.specs.Wire.{payloadMax, checksum};
 ghost use Rattle.numbers.specs.Lists.{total};
 ghost use Rattle.fronius.specs.Machine.{heldMax, advanceOf, inRange};
-ghost use Rattle.fronius.specs.Reader.{IsFresh, IsStep};
+ghost use Rattle.fronius.specs.Reader.{IsFresh, IsStep, IsStepInPlace};
 ghost use Rattle.fronius.specs.Inside.{Filled, Fits, Runs, eventOf, judgedFrame, JudgedAs, Small, given};
 
 // The limits, named here because the reader's own constants cannot size its own array. 80 80 80, length, device, number and command come before the data.
@@ -72,6 +72,15 @@ pub enum Answer {
 // What a call hands back: the reader to go on with, the answer, and how many bytes of the piece were used.
 pub struct Step {
     pub reader: Reader,
+    pub answer: Answer,
+    pub used: usize,
+}
+
+// What a call over lent held bytes hands back: the rest of the reader to go on with, the answer, and how many bytes of the piece were used.
+pub struct StepInPlace {
+    pub stage: u8,
+    pub count: usize,
+    pub len: usize,
     pub answer: Answer,
     pub used: usize,
 }
@@ -163,7 +172,7 @@ struct Ran {
 }
 
 // Takes in bytes of the body from `from` on, whatever they are: as many as it still lacks and the piece has. Gives the index after the last.
-fn fill(count: usize, len: usize, held: &mut [u8; HELD], piece: &[u8], from: usize) -> usize
+fn fill(count: usize, len: usize, held: &mut [u8], piece: &[u8], from: usize) -> usize
     requires { ⌜ (count ≤ 3 + len) × (len ≤ payloadMax) × (from ≤ length (now piece)) × (length (now held) ≡ heldMax) ⌝ }
     ensures { λ r. ⌜ Filled count len (now (held .entry)) (now (piece .entry)) from r (now (held .exit)) ⌝ }
 {
@@ -180,7 +189,7 @@ fn fill(count: usize, len: usize, held: &mut [u8; HELD], piece: &[u8], from: usi
 
 // The piece, byte by byte, up to the end of a frame, a bad length or the end of the piece.
 // It is long because each move has its arm here: a call from an arm would have to lend the whole state.
-fn run_in(stage: u8, count: usize, len: usize, held: &mut [u8; HELD], piece: &[u8]) -> Ran
+fn run_in(stage: u8, count: usize, len: usize, held: &mut [u8], piece: &[u8]) -> Ran
     requires { ⌜ (inRange stage count len ≡ true) × (length (now held) ≡ heldMax) ⌝ }
     ensures { λ r. ⌜ Runs stage count len (now (held .entry)) (now (piece .entry)) r (now (held .exit)) ⌝ }
 {
@@ -309,6 +318,52 @@ fn deliver(answer: Answer, held: &[u8], lent: &mut [u8])
     }
 }
 
+// The call of `Reader::step` for a host that leaves the held bytes where they are and lends them: none of them is copied. A reader has HELD of
+// them, so any other number of them is a spoilt state.
+pub fn step_in_place(
+    stage: u8,
+    count: usize,
+    len: usize,
+    held: &mut [u8],
+    piece: &[u8],
+    lent: &mut [u8],
+) -> StepInPlace
+    ensures { λ r. ⌜ IsStepInPlace stage count len (now (held .entry)) (now (piece .entry)) (now (lent .entry)) r (now (held .exit)) (now (lent .exit)) ⌝ }
+{
+    let whole = (held.len() == HELD) & in_range(stage, count, len);
+    if !whole {
+        let answer = Answer::Refused(Refusal::Spoilt);
+        return StepInPlace {
+            stage,
+            count,
+            len,
+            answer,
+            used: 0,
+        };
+    }
+    if lent.len() < Reader::LENT {
+        let answer = Answer::Refused(Refusal::NoRoom);
+        return StepInPlace {
+            stage,
+            count,
+            len,
+            answer,
+            used: 0,
+        };
+    }
+    let ran = run_in(stage, count, len, held, piece);
+    let end = ran.end;
+    let answer = judge(end, &*held);
+    deliver(answer, &*held, lent);
+    StepInPlace {
+        stage: ran.stage,
+        count: ran.count,
+        len: ran.len,
+        answer,
+        used: ran.used,
+    }
+}
+
 impl Reader {
     // the bytes before a message's data, start marks included
     pub const HEADER: usize = HEADER;
@@ -332,40 +387,22 @@ impl Reader {
     }
 
     // One call on a piece: up to the first message or damage, or to the piece's end. With a message its data stand at the front of `lent`.
-    pub fn step(mut self, piece: &[u8], lent: &mut [u8]) -> Step
+    pub fn step(self, piece: &[u8], lent: &mut [u8]) -> Step
         ensures { λ r. ⌜ IsStep self (now (piece .entry)) (now (lent .entry)) r (now (lent .exit)) ⌝ }
     {
-        let stage = self.stage;
-        let count = self.count;
-        let len = self.len;
-        if !in_range(stage, count, len) {
-            let answer = Answer::Refused(Refusal::Spoilt);
-            return Step {
-                reader: self,
-                answer,
-                used: 0,
-            };
-        }
-        if lent.len() < Reader::LENT {
-            let answer = Answer::Refused(Refusal::NoRoom);
-            return Step {
-                reader: self,
-                answer,
-                used: 0,
-            };
-        }
-        let ran = run_in(stage, count, len, &mut self.held, piece);
-        self.stage = ran.stage;
-        self.count = ran.count;
-        self.len = ran.len;
-        let used = ran.used;
-        let end = ran.end;
-        let answer = judge(end, &self.held);
-        deliver(answer, &self.held, lent);
+        let mut held = self.held;
+        let s = step_in_place(self.stage, self.count, self.len, &mut held, piece, lent);
+        let reader = Reader {
+            held,
+            stage: s.stage,
+            count: s.count,
+            len: s.len,
+        };
+        let answer = s.answer;
         Step {
-            reader: self,
+            reader,
             answer,
-            used,
+            used: s.used,
         }
     }
 }

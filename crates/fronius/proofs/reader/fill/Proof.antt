@@ -42,8 +42,8 @@ loop-holds c = (omega arith, omega arith, omega arith, refl, refl)
 shared-slice-read-held : tie.Need-shared-slice-read-held Inv-loop μ-loop
 shared-slice-read-held c = search needs
 
-element-write-held : tie.Need-element-write-held Inv-loop μ-loop
-element-write-held c = search needs
+slice-write-held : tie.Need-slice-write-held Inv-loop μ-loop
+slice-write-held c = search needs
 
 add-at : tie.Need-add-at Inv-loop μ-loop
 add-at c = search needs
@@ -57,7 +57,7 @@ loop-less c = search needs
 loop-again : tie.Need-loop-again Inv-loop μ-loop
 loop-again c =
     let l = c .before .before .loop in
-    let a = c .before .before .before .before .before .args in (
+    let a = c .before .before .before .before .before .before .args in (
       omega arith,
       omega arith,
       omega arith,
@@ -65,10 +65,13 @@ loop-again c =
       l .inv .4 ∙ from-goes next (filling (l .at) (a .len) (l .held)) (filling (l .at + 1) (a .len) (set (l .held) (l .at) (getD (a .piece .now) (l .i) 0))) (a .piece .now) (l .i) (omega arith) (fill-more (l .at) (a .len) (l .held) _ (omega arith)),
     )
 
+same-length : tie.Need-same-length Inv-loop μ-loop
+same-length c = search needs
+
 returns : tie.Need-returns Inv-loop μ-loop
 returns c =
     let l = c .before .loop in
-    let a = c .before .before .before .before .args in
+    let a = c .before .before .before .before .before .args in
     record {
       forward = omega arith;
       within = omega arith;
@@ -90,9 +93,10 @@ fill-spec =
     add-stop
     loop-holds
     shared-slice-read-held
-    element-write-held
+    slice-write-held
     add-at
     add-i
     loop-less
     loop-again
+    same-length
     returns)

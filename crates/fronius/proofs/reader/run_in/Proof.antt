@@ -8,7 +8,7 @@ use Rattle.stream.specs.Event.{Event}
 use Rattle.stream.specs.Pieces.{Called, scan, scanFrom}
 use Rattle.stream.proofs.LoopScans.{from-start, from-goes, from-tells, from-end}
 use Rattle.fronius.specs.Wire.{Message}
-use Rattle.fronius.specs.Machine.{filling, moved, next}
+use Rattle.fronius.specs.Machine.{holding, filling, moved, next}
 use Rattle.fronius.specs.declared.reader.Reader.{Reader}
 use Rattle.fronius.specs.declared.reader.Move.{Move}
 use Rattle.fronius.specs.declared.reader.Move.the-variants.{Count, Open, Keep, Close, Bad}
@@ -24,7 +24,7 @@ use Rattle.fronius.proofs.reader.run_in.Tie as tie
 abbrev Inv-loop : tie.InvT-loop
 Inv-loop stage count len held₀ piece stage₀ count₀ len₀ i₀ held stage' count' len' i =
     (i ≤ length piece) × Range stage' count' len' × (length held ≡ length held₀)
-    × (scanFrom next (record { held = held; stage = stage'; count = count'; len = len' }) piece i ≡ scan next (record { held = held₀; stage = stage; count = count; len = len }) piece)
+    × (scanFrom next (holding stage' count' len' held) piece i ≡ scan next (holding stage count len held₀) piece)
 
 abbrev μ-loop : tie.MeasureT-loop
 μ-loop stage count len held₀ piece stage₀ count₀ len₀ i₀ held stage' count' len' i = length piece - i
@@ -34,16 +34,16 @@ abbrev at : tie.After-advance Inv-loop μ-loop → tie.At-loop Inv-loop μ-loop
 at c = c .before .before .before
 
 abbrev St : tie.After-advance Inv-loop μ-loop → Reader
-St c = let l = at c .loop in record { held = l .held; stage = l .stage; count = l .count; len = l .len }
+St c = let l = at c .loop in holding (l .stage) (l .count) (l .len) (l .held)
 
 abbrev P : tie.After-advance Inv-loop μ-loop → List ℕ
-P c = at c .before .before .args .piece .now
+P c = at c .before .before .before .args .piece .now
 
 abbrev I : tie.After-advance Inv-loop μ-loop → ℕ
 I c = at c .loop .i
 
 abbrev Whole : tie.After-advance Inv-loop μ-loop → Called Reader (Event Message)
-Whole c = let a = at c .before .before .args in scan next (record { held = a .held .now; stage = a .stage; count = a .count; len = a .len }) (P c)
+Whole c = let a = at c .before .before .before .args in scan next (holding (a .stage) (a .count) (a .len) (a .held .now)) (P c)
 
 -- what the move says of the state, and what the byte does
 asks : (c : tie.After-advance Inv-loop μ-loop) (m : Move) → c .advance .result ≡ m → Asked (at c .loop .stage) (at c .loop .count) (at c .loop .len) m
@@ -62,13 +62,13 @@ again c m t e f = sym (from-goes next (St c) t (P c) (I c) (c .before .before .l
 
 -- a byte is kept in the body, and a run of bytes behind it: the call goes on behind the run
 behind : (c : tie.After-advance Inv-loop μ-loop) (held later : List ℕ) (first n j : ℕ) → c .advance .result ≡ Keep → at c .loop .stage ≡ 1
-    → moved Keep (St c) (getD (P c) (I c) 0) ≡ record { state = record { held = held; stage = at c .loop .stage; count = first; len = at c .loop .len }; event = none }
+    → moved Keep (St c) (getD (P c) (I c) 0) ≡ record { state = holding (at c .loop .stage) first (at c .loop .len) held; event = none }
     → scanFrom next (filling first (at c .loop .len) held) (P c) (I c + 1) ≡ scanFrom next (filling n (at c .loop .len) later) (P c) j
-    → scanFrom next (record { held = later; stage = at c .loop .stage; count = n; len = at c .loop .len }) (P c) j ≡ Whole c
+    → scanFrom next (holding (at c .loop .stage) n (at c .loop .len) later) (P c) j ≡ Whole c
 behind c held later first n j e s f g =
-    ap (λ (x : ℕ). scanFrom next (record { held = later; stage = x; count = n; len = at c .loop .len }) (P c) j) s
+    ap (λ (x : ℕ). scanFrom next (holding x n (at c .loop .len) later) (P c) j) s
     ∙ sym g
-    ∙ ap (λ (x : ℕ). scanFrom next (record { held = held; stage = x; count = first; len = at c .loop .len }) (P c) (I c + 1)) (sym s)
+    ∙ ap (λ (x : ℕ). scanFrom next (holding x first (at c .loop .len) held) (P c) (I c + 1)) (sym s)
     ∙ again c Keep _ e f
 
 tells : (c : tie.After-advance Inv-loop μ-loop) (m : Move) (x : Event Message) (t : Reader) → c .advance .result ≡ m → moved m (St c) (getD (P c) (I c) 0) ≡ record { state = t; event = some x }
@@ -77,11 +77,11 @@ tells c m x t e f = sym (at c .loop .inv .3) ∙ from-tells next (St c) t x (P c
 
 loop-holds : tie.Need-loop-holds Inv-loop μ-loop
 loop-holds c =
-    let a = c .before .args in (
+    let a = c .before .before .args in (
       omega arith,
-      range-of (a .stage) (a .count) (a .len) (c .before .pre .0),
+      range-of (a .stage) (a .count) (a .len) (c .before .before .pre .0),
       refl,
-      from-start next (record { held = a .held .now; stage = a .stage; count = a .count; len = a .len }) (a .piece .now),
+      from-start next (holding (a .stage) (a .count) (a .len) (a .held .now)) (a .piece .now),
     )
 
 shared-slice-read-b : tie.Need-shared-slice-read-b Inv-loop μ-loop
@@ -123,8 +123,8 @@ loop-again-2 c =
 enum-told : tie.Need-enum-told Inv-loop μ-loop
 enum-told c = search needs
 
-element-write-held : tie.Need-element-write-held Inv-loop μ-loop
-element-write-held c = let h = kept (c .before .before) (c .enum-told .given .1) in omega arith
+slice-write-held : tie.Need-slice-write-held Inv-loop μ-loop
+slice-write-held c = let h = kept (c .before .before) (c .enum-told .given .1) in omega arith
 
 add-next : tie.Need-add-next Inv-loop μ-loop
 add-next c = let h = kept (c .before .before) (c .enum-told .given .1) in omega arith
@@ -133,22 +133,24 @@ fill-requires : tie.Need-fill-requires Inv-loop μ-loop
 fill-requires c κs =
     let k = c .before .before .before in
     let h = asks k Keep (c .before .enum-told .given .1) in
-    (omega arith, h .1, omega arith, simp length-set (at k .loop .inv .2 ∙ at k .before .before .pre .1))
+    (omega arith, h .1, omega arith, simp length-set (at k .loop .inv .2 ∙ at k .before .before .before .pre .1))
 
 sub-count : tie.Need-sub-count Inv-loop μ-loop
-sub-count c = c .fill .ensures .forward
+sub-count c = c .before .before .fill .ensures .forward
 
 add-count : tie.Need-add-count Inv-loop μ-loop
-add-count c =
-    let h = kept (c .before .before .before .before) (c .before .before .enum-told .given .1) in
-    omega (arith, c .fill .ensures .room)
+add-count d =
+    let c = d .before .before in
+    let h = asks (c .before .before .before .before) Keep (c .before .before .enum-told .given .1) in
+    omega (arith, c .fill .ensures .room, h .1)
 
 loop-less-3 : tie.Need-loop-less-3 Inv-loop μ-loop
-loop-less-3 c = omega (arith, c .fill .ensures .forward, c .fill .ensures .within)
+loop-less-3 d = let c = d .before .before in omega (arith, c .fill .ensures .forward, c .fill .ensures .within)
 
 loop-again-3 : tie.Need-loop-again-3 Inv-loop μ-loop
 unfolding moved
-loop-again-3 c =
+loop-again-3 d =
+    let c = d .before .before in
     let k = c .before .before .before .before in
     let e = c .before .before .enum-told .given .1 in
     let h = asks k Keep e in
@@ -164,6 +166,9 @@ loop-again-3 c =
 enum-told-2 : tie.Need-enum-told-2 Inv-loop μ-loop
 enum-told-2 c = search needs
 
+same-length : tie.Need-same-length Inv-loop μ-loop
+same-length c = search needs
+
 returns : tie.Need-returns Inv-loop μ-loop
 unfolding moved
 returns c =
@@ -174,11 +179,17 @@ returns c =
 enum-told-3 : tie.Need-enum-told-3 Inv-loop μ-loop
 enum-told-3 c = search needs
 
+same-length-2 : tie.Need-same-length-2 Inv-loop μ-loop
+same-length-2 c = search needs
+
 returns-2 : tie.Need-returns-2 Inv-loop μ-loop
 unfolding moved
 returns-2 c =
     let k = c .before .before in
     record { sized = at k .loop .inv .2; fits = tt; ranged = in-range _ _ _ (start refl (omega arith) refl); scanned = tells k Bad _ _ (c .enum-told3 .given .1) refl }
+
+same-length-3 : tie.Need-same-length-3 Inv-loop μ-loop
+same-length-3 c = search needs
 
 returns-3 : tie.Need-returns-3 Inv-loop μ-loop
 returns-3 c =
@@ -187,7 +198,7 @@ returns-3 c =
       sized = l .inv .2;
       fits = tt;
       ranged = in-range _ _ _ (l .inv .1);
-      scanned = sym (l .inv .3) ∙ from-end next (record { held = l .held; stage = l .stage; count = l .count; len = l .len }) (c .before .before .before .args .piece .now) (l .i) (c .loop-test .left);
+      scanned = sym (l .inv .3) ∙ from-end next (holding (l .stage) (l .count) (l .len) (l .held)) (c .before .before .before .before .args .piece .now) (l .i) (c .loop-test .left);
     }
 
 pub run-in-spec : {M : Type 1} → statement M
@@ -207,7 +218,7 @@ run-in-spec =
     loop-less-2
     loop-again-2
     enum-told
-    element-write-held
+    slice-write-held
     add-next
     fill-requires
     sub-count
@@ -215,7 +226,10 @@ run-in-spec =
     loop-less-3
     loop-again-3
     enum-told-2
+    same-length
     returns
     enum-told-3
+    same-length-2
     returns-2
+    same-length-3
     returns-3)
