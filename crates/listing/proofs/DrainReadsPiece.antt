@@ -15,7 +15,7 @@ use Rattle.answers.specs.Written.{lengthIn, Writes}
 use Rattle.answers.specs.declared.Written.{Written}
 use Rattle.stream.specs.Event.{Event, message, damage, Told, done, gives, refuses, outcome}
 use Rattle.stream.specs.Pieces.{Moved, Called, Ran, before, scan, calls}
-use Rattle.stream.specs.Call.{Seen, lentLeast, refused, answered, called, retold, retells, Steps, seenBy}
+use Rattle.stream.specs.Call.{Seen, lentLeast, unmoved, answered, called, retold, retells, Steps, seenBy}
 use Rattle.stream.proofs.CallsComeTo.{after, events, scan-after, scan-events, calls-is}
 use Rattle.stream.proofs.LoopScans.{scan-used, scan-uses}
 use Rattle.stream.proofs.PromiseOfStep.{in-room, steps-seen}
@@ -209,7 +209,7 @@ module _ {S M H R : Type 0} (next : S → ℕ → Moved S (Event M)) (inRange : 
                   (sym (ap (λ (v : Seen S M). v .used) seen));
             }
         go false i =
-            let out : called next inRange s piece lent ≡ refused 18 s = rw i in
+            let out : called next inRange s piece lent ≡ unmoved 18 s = rw i in
             absurd (subst (λ (v : Seen S H). Fine (v .told)) (st .0 ∙ ap (retells header) out) fine)
 
     fine-told : (o : Option (Event M)) → Fine (retold header (outcome o))
@@ -226,7 +226,7 @@ module _ {S M H R : Type 0} (next : S → ℕ → Moved S (Event M)) (inRange : 
             let is = st .0 ∙ ap (retells header) (in-room next inRange s piece lent i room) in
             absurd (subst Fine (sym (ap (λ (v : Seen S H). v .told) is) ∙ e) (fine-told (scan next s piece .event)))
         go false i =
-            let out : called next inRange s piece lent ≡ refused 18 s = rw i in
+            let out : called next inRange s piece lent ≡ unmoved 18 s = rw i in
             (i, ap (λ (v : Seen S H). v .state) (st .0 ∙ ap (retells header) out))
 
   -- ---- what a loop of calls keeps

@@ -33,7 +33,7 @@ use Rattle.ports.proofs.TableLaws.{same-seat}
 use Rattle.listing_text.specs.Lines.{stopLine, endLine}
 use Rattle.listing.specs.Entries.{showEvent, lastLines}
 use Rattle.listing.specs.Steps.{Packet, packetIn, packetsMax}
-use Rattle.listing.specs.Steps.{Fed, fed, readableOn, readable, Made, refused, wantsMore, ends, takes, taking, noPacket, atEnd, byPacket, going, inRange, roomLeast, made, Sound, listed, HandsBack}
+use Rattle.listing.specs.Steps.{Fed, fed, readableOn, readable, Made, unmoved, wantsMore, ends, takes, taking, noPacket, atEnd, byPacket, going, inRange, roomLeast, made, Sound, listed, HandsBack}
 use Rattle.listing.specs.Inside.{Put, Drains, stopText, stopOf, took}
 use Rattle.listing.specs.declared.Listing.{Listing}
 use Rattle.listing.specs.declared.Listed.{Listed}
@@ -116,13 +116,13 @@ module _ (at : Seat) (l : Listing) (piece lent later : List ℕ) (reader : rowOf
   p = packet (rowOf at .port) piece
 
   -- out of its range
-  pub drain-refused : spoilt ≡ true → r ≡ listed (refused Spoilt l) → HandsBack l (taking l p) lent r later
+  pub drain-refused : spoilt ≡ true → r ≡ listed (unmoved Spoilt l) → HandsBack l (taking l p) lent r later
   unfolding taking
   drain-refused t e =
       let out : rowOf at .inRange (rowOf at .get (l .ports)) ≡ false = not-true _ (sym (d .range) ∙ t) in
-      let is : refused Spoilt l ≡ taking l p = rw (factsOf at .own-seat, out) in
+      let is : unmoved Spoilt l ≡ taking l p = rw (factsOf at .own-seat, out) in
       let kept : later ≡ lent = d .refuses out .1 in
-      rw kept (same-made l lent lent r is (nothing l (refused Spoilt l) lent r refl refl e))
+      rw kept (same-made l lent lent r is (nothing l (unmoved Spoilt l) lent r refl refl e))
 
   -- in its range
   pub drain-taken : spoilt ≡ false → CanTake l (length piece) (length lent)
@@ -183,11 +183,11 @@ going-on l [] ended h e = absurd (h refl)
 going-on l (b ∷ bs) ended h e = rw (ne-eqb (l .packets) packetsMax e)
 
 module _ (l : Listing) (s : List ℕ) (ended : Bool) (room : ℕ) where
-  pub out-of-range : inRange l ≡ false → refused Spoilt l ≡ made l s ended room
+  pub out-of-range : inRange l ≡ false → unmoved Spoilt l ≡ made l s ended room
   unfolding made
   out-of-range e = rw e
 
-  pub no-room : inRange l ≡ true → room < roomLeast → refused NoRoom l ≡ made l s ended room
+  pub no-room : inRange l ≡ true → room < roomLeast → unmoved NoRoom l ≡ made l s ended room
   unfolding made
   no-room e h = rw (e, lt-leb roomLeast room h)
 

@@ -76,8 +76,9 @@ pub record Made : Type 0 where
   pub used : ℕ
   pub text : List ℕ
 
-abbrev pub refused : Refusal → Listing → Made
-refused why l = record { listing = l; heard = Refused why; used = 0; text = [] }
+-- a refusal leaves the listing unmoved: nothing used, nothing written
+abbrev pub unmoved : Refusal → Listing → Made
+unmoved why l = record { listing = l; heard = Refused why; used = 0; text = [] }
 
 abbrev pub wantsMore : Listing → Made
 wantsMore l = record { listing = l; heard = More; used = 0; text = [] }
@@ -98,7 +99,7 @@ takes l p f =
 
 -- a packet that is accepted is taken, if the reader of its port is in range
 unfoldable pub taking : Listing → Packet → Made
-taking l p = need (readable (p .port) (l .ports)) (refused Spoilt l) (takes l p (fed p (l .ports)))
+taking l p = need (readable (p .port) (l .ports)) (unmoved Spoilt l) (takes l p (fed p (l .ports)))
 
 -- Of a packet that is refused with n nothing is read. Bytes are missing only once the input has ended: else more is wanted
 unfoldable pub noPacket : Listing → (n : ℕ) → (ended : Bool) → Made
@@ -128,8 +129,8 @@ roomLeast = 8192
 -- Tests: 18, then 9, then the input
 unfoldable pub made : Listing → List ℕ → (ended : Bool) → (room : ℕ) → Made
 made l input ended room =
-    need (inRange l) (refused Spoilt l)
-    (need (leb roomLeast room) (refused NoRoom l)
+    need (inRange l) (unmoved Spoilt l)
+    (need (leb roomLeast room) (unmoved NoRoom l)
     (going l input ended))
 
 -- a listing that is never refused with 18

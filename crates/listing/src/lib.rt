@@ -18,7 +18,7 @@ ghost use Prim.Native.Nat.{_≤_};
 ghost use lib.ListN.{length};
 ghost use Rattle.answers.specs.Refusal.{number as refusalNumber};
 ghost use Rattle.listing_text.specs.Lines.{endLine};
-ghost use Rattle.listing.specs.Steps.{roomLeast, refused, wantsMore, ends, noPacket, atEnd, listed, HandsBack, IsFresh, IsStep};
+ghost use Rattle.listing.specs.Steps.{roomLeast, unmoved, wantsMore, ends, noPacket, atEnd, listed, HandsBack, IsFresh, IsStep};
 ghost use Rattle.listing.specs.Inside.{Put, InRange, stopMost, stopText, stopOf, endMost, finish, took};
 ghost use Rattle.listing.specs.Entries.{lastLines};
 
@@ -74,7 +74,7 @@ fn in_range(packets: usize, messages: u64, damages: u64) -> bool
 
 // The listing as it was, nothing used and nothing written.
 fn refused(l: Listing, why: Refusal) -> Listed
-    ensures { λ r. ⌜ r ≡ listed (refused why l) ⌝ }
+    ensures { λ r. ⌜ r ≡ listed (unmoved why l) ⌝ }
 {
     let heard = Heard::Refused(why);
     Listed {

@@ -17,7 +17,7 @@ use Rattle.uplink.specs.Packet.{leadLength, pieceMax, portIn, countIn, packetAt
 use Rattle.uplink.proofs.PacketTests.{both}
 use Rattle.ports.proofs.EveryRow.{OnSeat}
 use Rattle.listing.specs.Steps.{packetIn, packetsMax}
-use Rattle.listing.specs.Steps.{fed, readable, Made, refused, wantsMore, ends, takes, taking, noPacket, atEnd, byPacket, going, inRange, roomLeast, made}
+use Rattle.listing.specs.Steps.{fed, readable, Made, unmoved, wantsMore, ends, takes, taking, noPacket, atEnd, byPacket, going, inRange, roomLeast, made}
 use Rattle.listing.specs.declared.Listing.{Listing}
 use Rattle.listing_whole.proofs.FirstPacket.{Kind, short, wrong, packet, kind}
 
@@ -31,7 +31,7 @@ pub record Whole (s : List ℕ) : Type 0 where
   pub accepted : (rest : List ℕ) → number (packetAt (s ++ rest)) ≡ 0
 
 pub data Outcome (l : Listing) (s : List ℕ) (ended : Bool) : Made → Type 0 where
-  refuses : (why : Refusal) → Outcome l s ended (refused why l)
+  refuses : (why : Refusal) → Outcome l s ended (unmoved why l)
   wants : ended ≡ false → length s < leadLength + pieceMax → Outcome l s ended (wantsMore l)
   all-read : s ≡ [] → ended ≡ true → Outcome l s ended (ends l none)
   too-many : 0 < length s → l .packets ≡ packetsMax → Outcome l s ended (ends l (some (refusalNumber TooManyPackets)))
@@ -47,7 +47,7 @@ module _ (l : Listing) (s : List ℕ) (within : l .packets ≤ packetsMax) where
   by-first ended some-left few (wrong why a b n m) = rw (n, a, b) (stops (refusalNumber why) some-left few a (λ rest all. m rest))
   by-first ended some-left few (packet a p c d t n m) = rw n (go (readable (portIn s) (l .ports)) refl)
     where
-      go : (t : Bool) → readable (portIn s) (l .ports) ≡ t → Outcome l s ended (cond t (takes l (packetIn s) (fed (packetIn s) (l .ports))) (refused Spoilt l))
+      go : (t : Bool) → readable (portIn s) (l .ports) ≡ t → Outcome l s ended (cond t (takes l (packetIn s) (fed (packetIn s) (l .ports))) (unmoved Spoilt l))
       go true e = packets few (omega (arith, eqb-false (l .packets) packetsMax few)) (record { long = a; on-seat = p; count-least = c; count-most = d; there = t; accepted = m }) e
       go false e = refuses Spoilt
 
@@ -70,7 +70,7 @@ pub outcome : (l : Listing) (s : List ℕ) (ended : Bool) (room : ℕ) → Outco
 unfolding made
 outcome l s ended room = go (inRange l) (leb roomLeast room) refl
   where
-    go : (t u : Bool) → inRange l ≡ t → Outcome l s ended (need t (refused Spoilt l) (need u (refused NoRoom l) (going l s ended)))
+    go : (t u : Bool) → inRange l ≡ t → Outcome l s ended (need t (unmoved Spoilt l) (need u (unmoved NoRoom l) (going l s ended)))
     go true false e = refuses NoRoom
     go true true e = by-input l (within-range l e) s ended
     go false u e = refuses Spoilt

@@ -20,7 +20,7 @@ use Rattle.listing_text.specs.Lines.{titleLine}
 use Rattle.listing.specs.Entries.{entriesOn, Entry, linesOf, messagesIn, damagesIn, lastLines}
 use Rattle.listing.specs.Steps.{Packet, packetIn, packetsMax}
 use Rattle.listing_whole.specs.Listing.{Cut, stopped, before, whole, byPacket, byEnd, cut, joined, brings, entries, listingOf}
-use Rattle.listing.specs.Steps.{IsFresh, Fed, fed, readable, Made, refused, wantsMore, ends, takes, made, IsStep}
+use Rattle.listing.specs.Steps.{IsFresh, Fed, fed, readable, Made, unmoved, wantsMore, ends, takes, made, IsStep}
 use Rattle.listing_whole.specs.Demands.{Has, Prints, reads-on, takes as took, ends as over, Makes}
 use Rattle.listing.specs.declared.Listing.{Listing}
 use Rattle.listing.specs.declared.Listed.{Listed}

@@ -19,7 +19,7 @@ use Rattle.ports.proofs.EveryRow.{factsOf, OnSeat}
 use Rattle.ports.proofs.TableLaws.{seat-at}
 use Rattle.uplink.specs.Packet.{leadLength, pieceMax, portIn, countIn, packetAt}
 use Rattle.listing.specs.Steps.{packetIn, packetsMax}
-use Rattle.listing.specs.Steps.{IsFresh, fed, readableOn, readable, Made, refused, wantsMore, ends, takes, taking, noPacket, atEnd, byPacket, going, inRange, roomLeast, made, Sound, IsStep}
+use Rattle.listing.specs.Steps.{IsFresh, fed, readableOn, readable, Made, unmoved, wantsMore, ends, takes, taking, noPacket, atEnd, byPacket, going, inRange, roomLeast, made, Sound, IsStep}
 use Rattle.listing_whole.specs.Demands as Specs
 use Rattle.listing_whole.specs.Demands.{Reached, at-first, by-call}
 use Rattle.listing.specs.declared.Listing.{Listing}

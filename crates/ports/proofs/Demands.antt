@@ -14,7 +14,7 @@ use Rattle.answers.specs.declared.Refusal.{Refusal}
 use Rattle.answers.proofs.NumbersHaveCases.{damages}
 use Rattle.stream.specs.Event.{Event, message, refuses, outcome}
 use Rattle.stream.specs.Pieces.{Called, scan}
-use Rattle.stream.specs.Call.{Seen, lentLeast, refused, answered}
+use Rattle.stream.specs.Call.{Seen, lentLeast, unmoved, answered}
 use Rattle.stream.specs.Family.{Family, Call, Allowed}
 use Rattle.stream.proofs.Demands as Stream
 use Rattle.stream.proofs.FamilyFacts.{Facts}
@@ -33,7 +33,7 @@ no-refusal : {M : Type 0} (o : Option (Event M)) (n : ℕ) → outcome o ≡ ref
 no-refusal none n h = zero-is-one cc
 no-refusal (some e) n h = zero-is-one cc
 
-not-12 : {S M : Type 0} (t u : Bool) (s : S) (c : Called S (Event M)) → cond t (cond u (refused {M = M} 9 s) (answered c)) (refused 18 s) .told ≡ refuses 12 → ⊥
+not-12 : {S M : Type 0} (t u : Bool) (s : S) (c : Called S (Event M)) → cond t (cond u (unmoved {M = M} 9 s) (answered c)) (unmoved 18 s) .told ≡ refuses 12 → ⊥
 not-12 true true s c h = let z : _≡_ {A = ℕ} 9 12 = cc in omega arith
 not-12 true false s c h = no-refusal (c .event) 12 h
 not-12 false u s c h = let z : _≡_ {A = ℕ} 18 12 = cc in omega arith

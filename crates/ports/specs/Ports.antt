@@ -155,14 +155,14 @@ IsFresh r = (seat : Seat) → rowOf seat .get r ≡ rowOf seat .family .fresh
 abbrev pub stepped : (seat : Seat) → Ports → rowOf seat .family .Result → Step
 stepped seat ports s = record { ports = rowOf seat .put ports (rowOf seat .reader s); answer = rowOf seat .answer s; used = rowOf seat .used s }
 
--- 12, nothing used, all unchanged
-abbrev pub refused : Ports → Step
-refused ports = record { ports = ports; answer = Refused WrongPortOrCount; used = 0 }
+-- 12 leaves the ports unmoved: nothing used, all unchanged
+abbrev pub unmoved : Ports → Step
+unmoved ports = record { ports = ports; answer = Refused WrongPortOrCount; used = 0 }
 
 -- a call on a port: there is a call of its reader that its family's promise allows, this is the result of that, and its answer has the same number;
--- on another than these: refused
+-- on another than these: 12
 abbrev pub StepsOn : Option Seat → Ports → List ℕ → List ℕ → Step → List ℕ → Type 0
-StepsOn none ports piece lent r later = (r ≡ refused ports) × (later ≡ lent) × (number (r .answer) ≡ 12)
+StepsOn none ports piece lent r later = (r ≡ unmoved ports) × (later ≡ lent) × (number (r .answer) ≡ 12)
 StepsOn (some seat) ports piece lent r later =
     (s : rowOf seat .family .Result)
     × rowOf seat .family .Steps (rowOf seat .get ports) piece lent s later

@@ -13,7 +13,7 @@ use native.Mathlib.Omega.{arith}
 use Rattle.numbers.proofs.Alike.{zero-is-one}
 use Rattle.stream.specs.Event.{Event, message, Told, done, gives, refuses, outcome}
 use Rattle.stream.specs.Pieces.{Moved, Called, scan}
-use Rattle.stream.specs.Call.{Seen, lentLeast, refused, answered, called}
+use Rattle.stream.specs.Call.{Seen, lentLeast, unmoved, answered, called}
 use Rattle.stream.specs.Written.{written, ended, Each}
 use Rattle.stream.specs.Rule.{Settled, andOn, firstReadings, readings}
 use Rattle.stream.specs.Family.{Family, Call, toldBefore, sees, Allowed, used, toldFrom, Serves, ends, turns, calls}
@@ -49,8 +49,8 @@ told-done (some e) h = zero-is-one cc
 
 module _ {S M : Type 0} (next : S → ℕ → Moved S (Event M)) (inRange : S → Bool) (s : S) (piece lent : List ℕ) where
   by-tests : (t u : Bool) (c : Called S (Event M))
-      → ((n : ℕ) → cond t (cond u (refused {M = M} 9 s) (answered c)) (refused 18 s) .told ≡ refuses n → ⊥)
-      → cond t (cond u (refused {M = M} 9 s) (answered c)) (refused 18 s) ≡ answered c
+      → ((n : ℕ) → cond t (cond u (unmoved {M = M} 9 s) (answered c)) (unmoved 18 s) .told ≡ refuses n → ⊥)
+      → cond t (cond u (unmoved {M = M} 9 s) (answered c)) (unmoved 18 s) ≡ answered c
   by-tests true true c h = absurd (h 9 refl)
   by-tests true false c h = refl
   by-tests false u c h = absurd (h 18 refl)
@@ -61,8 +61,8 @@ module _ {S M : Type 0} (next : S → ℕ → Moved S (Event M)) (inRange : S �
   refusal-keeps : (n : ℕ) → called next inRange s piece lent .told ≡ refuses n → (called next inRange s piece lent .state ≡ s) × (called next inRange s piece lent .used ≡ 0)
   refusal-keeps n = go (inRange s) (ltb (length lent) lentLeast) (scan next s piece .event) refl
     where
-      go : (t u : Bool) (o : Option (Event M)) → scan next s piece .event ≡ o → cond t (cond u (refused {M = M} 9 s) (answered (scan next s piece))) (refused 18 s) .told ≡ refuses n
-          → (cond t (cond u (refused {M = M} 9 s) (answered (scan next s piece))) (refused 18 s) .state ≡ s) × (cond t (cond u (refused {M = M} 9 s) (answered (scan next s piece))) (refused 18 s) .used ≡ 0)
+      go : (t u : Bool) (o : Option (Event M)) → scan next s piece .event ≡ o → cond t (cond u (unmoved {M = M} 9 s) (answered (scan next s piece))) (unmoved 18 s) .told ≡ refuses n
+          → (cond t (cond u (unmoved {M = M} 9 s) (answered (scan next s piece))) (unmoved 18 s) .state ≡ s) × (cond t (cond u (unmoved {M = M} 9 s) (answered (scan next s piece))) (unmoved 18 s) .used ≡ 0)
       go true true o e h = (refl, refl)
       go true false none e h = absurd (done-refuses (ap outcome (sym e) ∙ h))
       go true false (some x) e h = absurd (gives-refuses (ap outcome (sym e) ∙ h))
@@ -71,14 +71,14 @@ module _ {S M : Type 0} (next : S → ℕ → Moved S (Event M)) (inRange : S �
   not-spoilt : (called next inRange s piece lent .told ≡ refuses 18 → ⊥) → inRange s ≡ true
   not-spoilt = go (inRange s) (ltb (length lent) lentLeast) refl
     where
-      go : (t u : Bool) → inRange s ≡ t → (cond t (cond u (refused {M = M} 9 s) (answered (scan next s piece))) (refused 18 s) .told ≡ refuses 18 → ⊥) → t ≡ true
+      go : (t u : Bool) → inRange s ≡ t → (cond t (cond u (unmoved {M = M} 9 s) (answered (scan next s piece))) (unmoved 18 s) .told ≡ refuses 18 → ⊥) → t ≡ true
       go true u e h = refl
       go false u e h = absurd (h refl)
 
   spoilt-only : inRange s ≡ true → called next inRange s piece lent .told ≡ refuses 18 → ⊥
   spoilt-only r = rw r (go (ltb (length lent) lentLeast) (scan next s piece .event) refl)
     where
-      go : (u : Bool) (o : Option (Event M)) → scan next s piece .event ≡ o → cond u (refused {M = M} 9 s) (answered (scan next s piece)) .told ≡ refuses 18 → ⊥
+      go : (u : Bool) (o : Option (Event M)) → scan next s piece .event ≡ o → cond u (unmoved {M = M} 9 s) (answered (scan next s piece)) .told ≡ refuses 18 → ⊥
       go true o e h = nine-eighteen h
       go false none e h = done-refuses (ap outcome (sym e) ∙ h)
       go false (some x) e h = gives-refuses (ap outcome (sym e) ∙ h)

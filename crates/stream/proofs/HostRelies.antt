@@ -10,7 +10,7 @@ use lib.Dec.{ltb}
 use native.Mathlib.Omega.{arith}
 use Rattle.stream.specs.Event.{Event, message, damage, Told, done, gives, refuses}
 use Rattle.stream.specs.Pieces.{Moved, scan}
-use Rattle.stream.specs.Call.{Seen, refused, answered, called, lentLeast, delivered, retold, Steps}
+use Rattle.stream.specs.Call.{Seen, unmoved, answered, called, lentLeast, delivered, retold, Steps}
 use Rattle.stream.proofs.LoopScans.{scan-used, scan-uses}
 
 -- no refusal
@@ -21,7 +21,7 @@ Fine (refuses n) = ⊥
 
 module _ {S M H R : Type 0} (next : S → ℕ → Moved S (Event M)) (inRange : S → Bool) (header : M → H) (payload : M → List ℕ) (shown : R → Seen S H) where
   abbrev chosen : Bool → Bool → S → List ℕ → Seen S M
-  chosen i short s piece = cond i (cond short (refused 9 s) (answered (scan next s piece))) (refused 18 s)
+  chosen i short s piece = cond i (cond short (unmoved 9 s) (answered (scan next s piece))) (unmoved 18 s)
 
   chosen-used : (i short : Bool) (s : S) (piece : List ℕ) → chosen i short s piece .used ≤ length piece
   chosen-used true true s piece = omega arith

@@ -8,7 +8,7 @@ use lib.ListN.{length, drop}
 use borrow.Author.Tests.{lt-ltb, le-ltb}
 use Rattle.stream.specs.Event.{Event, message, damage, Told, done, gives, refuses, number, outcome}
 use Rattle.stream.specs.Pieces.{Moved, Called, scan}
-use Rattle.stream.specs.Call.{Seen, lentLeast, numbered, refused, answered, called, delivered, retold, retells, Steps, seenBy}
+use Rattle.stream.specs.Call.{Seen, lentLeast, numbered, unmoved, answered, called, delivered, retold, retells, Steps, seenBy}
 
 -- a state in range, and room: the scan of the piece
 pub in-room : {S M : Type 0} (next : S → ℕ → Moved S (Event M)) (inRange : S → Bool) (s : S) (piece lent : List ℕ) → inRange s ≡ true → lentLeast ≤ length lent
@@ -43,11 +43,11 @@ module _ {S M H R : Type 0} (next : S → ℕ → Moved S (Event M)) (inRange : 
       subst (λ (v : Seen S M). (shown r ≡ retells header v) × (later ≡ delivered payload (v .told) lent) × (inRange s ≡ true → inRange (shown r .state) ≡ true)) (sym e)
       (x, y, λ i. ap (λ (v : Seen S H). inRange (v .state)) x ∙ k i)
 
-  pub steps-spoilt : (s : S) (piece lent : List ℕ) (r : R) → inRange s ≡ false → shown r ≡ refused 18 s → Steps next inRange header payload shown s piece lent r lent
-  steps-spoilt s piece lent r o x = by-call s piece lent lent r (refused 18 s) (rw o) x refl (λ i. i)
+  pub steps-spoilt : (s : S) (piece lent : List ℕ) (r : R) → inRange s ≡ false → shown r ≡ unmoved 18 s → Steps next inRange header payload shown s piece lent r lent
+  steps-spoilt s piece lent r o x = by-call s piece lent lent r (unmoved 18 s) (rw o) x refl (λ i. i)
 
-  pub steps-no-room : (s : S) (piece lent : List ℕ) (r : R) → inRange s ≡ true → length lent < lentLeast → shown r ≡ refused 9 s → Steps next inRange header payload shown s piece lent r lent
-  steps-no-room s piece lent r i h x = by-call s piece lent lent r (refused 9 s) (rw (i, lt-ltb (length lent) lentLeast h)) x refl (λ k. k)
+  pub steps-no-room : (s : S) (piece lent : List ℕ) (r : R) → inRange s ≡ true → length lent < lentLeast → shown r ≡ unmoved 9 s → Steps next inRange header payload shown s piece lent r lent
+  steps-no-room s piece lent r i h x = by-call s piece lent lent r (unmoved 9 s) (rw (i, lt-ltb (length lent) lentLeast h)) x refl (λ k. k)
 
   pub steps-scan : (s : S) (piece lent later : List ℕ) (r : R) (c : Called S (Event M)) → inRange s ≡ true → lentLeast ≤ length lent → scan next s piece ≡ c
       → shown r ≡ retells header (answered c) → later ≡ delivered payload (outcome (c .event)) lent → inRange (c .state) ≡ true

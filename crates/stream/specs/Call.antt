@@ -19,9 +19,9 @@ pub record Seen (S M : Type 0) : Type 0 where
 abbrev pub numbered : {S M : Type 0} → S → Told M → ℕ → Seen S M
 numbered s t used = record { state = s; number = number t; told = t; used = used }
 
--- a refusal: nothing used, state unchanged
-abbrev pub refused : {S M : Type 0} → ℕ → S → Seen S M
-refused n s = numbered s (refuses n) 0
+-- a refusal leaves the reader unmoved: nothing used, state unchanged
+abbrev pub unmoved : {S M : Type 0} → ℕ → S → Seen S M
+unmoved n s = numbered s (refuses n) 0
 
 -- the piece, scanned
 abbrev pub answered : {S M : Type 0} → Called S (Event M) → Seen S M
@@ -34,7 +34,7 @@ lentLeast = 255
 -- A reader tests 18, then 9 (under 255 bytes lent), then the piece
 abbrev pub called : {S M : Type 0} → (S → ℕ → Moved S (Event M)) → (S → Bool) → S → List ℕ → List ℕ → Seen S M
 called next inRange s piece lent =
-    cond (inRange s) (cond (ltb (length lent) lentLeast) (refused 9 s) (answered (scan next s piece))) (refused 18 s)
+    cond (inRange s) (cond (ltb (length lent) lentLeast) (unmoved 9 s) (answered (scan next s piece))) (unmoved 18 s)
 
 -- the lent buffer afterwards: with a message its data at the front, the rest unchanged; with anything else as it was
 abbrev pub delivered : {M : Type 0} → (M → List ℕ) → Told M → List ℕ → List ℕ

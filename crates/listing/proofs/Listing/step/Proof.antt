@@ -14,7 +14,7 @@ use Rattle.uplink.specs.Demands.{Within}
 use Rattle.uplink.specs.declared.Received.the-variants.{Packet}
 use Rattle.uplink.proofs.Demands.{fits}
 use Rattle.ports.specs.Ports.{comlynxSeat, eversolarSeat, froniusSeat}
-use Rattle.listing.specs.Steps.{refused, ends, taking, inRange, roomLeast, made}
+use Rattle.listing.specs.Steps.{unmoved, ends, taking, inRange, roomLeast, made}
 use Rattle.listing.specs.Inside.{stopOf}
 use Rattle.listing.proofs.StepMakes.{CanTake, packet, fits as counts-fit, in-counts, same-made, nothing, line-long, drain-refused, drain-taken, out-of-range, no-room, no-input, too-many, one-packet, refused-packet}
 use borrow.Author.Needs.{needs}
@@ -100,7 +100,7 @@ returns c =
     let a = c .before .before .before .before .before .args in
     let out : inRange (a .self) ≡ false = sym (c .before .before .in-range .ensures (a .self .ports)) ∙ not-true _ (c .before .if1 .taken) in
     same-made (a .self) (now (a .out)) (now (a .out)) (c .refused .result) (out-of-range (a .self) (now (a .input)) (a .ended) (length (now (a .out))) out)
-    (nothing (a .self) (refused Spoilt (a .self)) (now (a .out)) (c .refused .result) refl refl (c .refused .ensures))
+    (nothing (a .self) (unmoved Spoilt (a .self)) (now (a .out)) (c .refused .result) refl refl (c .refused .ensures))
 
 refused-requires-2 : tie.Need-refused-requires-2
 refused-requires-2 c κs = search needs
@@ -110,7 +110,7 @@ returns-2 c =
     let e : tie.Else1 = c .before .before in
     let a = args-of e .args in
     same-made (a .self) (now (a .out)) (now (a .out)) (c .refused2 .result) (no-room (a .self) (now (a .input)) (a .ended) (length (now (a .out))) (counted e) (omega arith))
-    (nothing (a .self) (refused NoRoom (a .self)) (now (a .out)) (c .refused2 .result) refl refl (c .refused2 .ensures))
+    (nothing (a .self) (unmoved NoRoom (a .self)) (now (a .out)) (c .refused2 .result) refl refl (c .refused2 .ensures))
 
 at-end-requires : tie.Need-at-end-requires
 at-end-requires c κs = search needs
