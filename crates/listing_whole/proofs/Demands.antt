@@ -50,15 +50,15 @@ stored-day = Day.stored-day
 abbrev Known : Listing → List ℕ → Bool → Made → Heard → Type 0
 Known l s ended m More = (ended ≡ false) × (length s < leadLength + pieceMax) × (m .listing ≡ l) × (m .used ≡ 0) × (m .text ≡ [])
 Known l s ended m Took = (leadLength < m .used) × (m .used ≤ length s) × (l .packets < packetsMax) × (m .listing .packets ≡ l .packets + 1)
-Known l s ended m End = Unit {0}
+Known l s ended m End = (m .used ≡ 0) × (m .listing ≡ l)
 Known l s ended m (Refused why) = (m .listing ≡ l) × (m .used ≡ 0) × (m .text ≡ [])
 
 known : (l : Listing) (s : List ℕ) (ended : Bool) (m : Made) → Outcome l s ended m → Known l s ended m (m .heard)
 known l s ended m (refuses why) = (refl, refl, refl)
 known l s ended m (wants e h) = (e, h, refl, refl, refl)
-known l s ended m (all-read n e) = tt
-known l s ended m (too-many n e) = tt
-known l s ended m (stops n a b c d) = tt
+known l s ended m (all-read n e) = (refl, refl)
+known l s ended m (too-many n e) = (refl, refl)
+known l s ended m (stops n a b c d) = (refl, refl)
 known l s ended m (packets a b w e) =
     let n : length (take (countIn s) (drop leadLength s)) ≡ countIn s = simp (length-take, length-drop) (omega (arith, w .there)) in
     (omega (arith, w .count-least), omega (arith, w .there), b, refl)
@@ -83,8 +83,11 @@ module _ (l : Listing) (input lent later : List ℕ) (ended : Bool) (r : Listed)
       let k = heard-as More h in
       (k .0, k .1, ap (λ (v : Listed). v .listing) (st .0) ∙ k .2, used-is ∙ k .3, ap (λ (v : Listed). v .wrote) (st .0) ∙ ap length (k .4))
 
+  end-is : r .heard ≡ End → (r .used ≡ 0) × (r .listing ≡ l)
+  end-is h = let k = heard-as End h in (used-is ∙ k .0, ap (λ (v : Listed). v .listing) (st .0) ∙ k .1)
+
 pub gets-on : Specs.GetsOn
-gets-on l input lent later ended r st = (more-is l input lent later ended r st, took-is l input lent later ended r st)
+gets-on l input lent later ended r st = (more-is l input lent later ended r st, took-is l input lent later ended r st, end-is l input lent later ended r st)
 
 pub kept : Specs.Kept
 kept l input lent later ended r why st h =

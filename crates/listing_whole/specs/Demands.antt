@@ -48,12 +48,13 @@ abbrev pub Makes : Type 0
 Makes = (input text : List ℕ) (l : Listing) → T (areBytes input) → IsFresh l → Prints l input text → titleLine ++ text ≡ listingOf input
 
 -- and it gets on, and ends: more is wanted only where the input has not ended and less than the longest packet is at hand, and changes nothing; a packet taken has
--- at least a byte in its piece, was at hand, and counts
+-- at least a byte in its piece, was at hand, and counts; the end uses nothing
 abbrev pub GetsOn : Type 0
 GetsOn =
     (l : Listing) (input lent later : List ℕ) (ended : Bool) (r : Listed) → IsStep l input ended lent r later
     → (r .heard ≡ More → (ended ≡ false) × (length input < leadLength + pieceMax) × (r .listing ≡ l) × (r .used ≡ 0) × (r .wrote ≡ 0))
     × (r .heard ≡ Took → (leadLength < r .used) × (r .used ≤ length input) × (l .packets < packetsMax) × (r .listing .packets ≡ l .packets + 1))
+    × (r .heard ≡ End → (r .used ≡ 0) × (r .listing ≡ l))
 
 -- a listing that calls lead to from a fresh one
 pub data Reached : Listing → Type 0 where

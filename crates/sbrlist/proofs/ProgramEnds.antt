@@ -1,39 +1,44 @@
--- What the program relies on: of the header, and of each call of `step`; and why it ends.
+-- What the program relies on of the header; and why it ends.
 -- Assumes nothing.
 use Prim.Native.Nat.{ℕ, _+_, _*_, _-_, _≤_, _<_}
 use mathlib.Core.Path.{_≡_, refl, sym, ap, _∙_}
-use mathlib.Core.Bool.{Bool, true, false}
-use mathlib.Core.Option.{some}
+use mathlib.Core.Bool.{Bool, true, false, _||_}
 use mathlib.Core.List.{List, _++_}
-use lib.ListN.{length, take, drop, length-append, length-take}
+use lib.ListN.{length, drop}
+use lib.Dec.{eqb}
+use borrow.Author.Tests.{eqb-true, eqb-false}
 use native.Mathlib.Omega.{arith}
 use Rattle.numbers.proofs.Alike.{zero-is-one}
 use Rattle.answers.specs.Written.{lengthIn}
 use Rattle.answers.specs.declared.Written.{Written}
-use Rattle.answers.specs.declared.Written.the-variants.{Done, Refused}
-use Rattle.answers.proofs.WriterPromise.{writes-frame}
+use Rattle.answers.specs.declared.Written.the-variants.{Done}
+use Rattle.answers.proofs.WriterPromise.{writes-done, writes-one}
 use Rattle.listing_text.specs.Lines.{titleLine, IsTitle}
 use Rattle.uplink.specs.Packet.{leadLength, pieceMax}
-use Rattle.listing.specs.Steps.{packetsMax, made, IsStep}
-use Rattle.listing.specs.declared.Listing.{Listing}
-use Rattle.listing.specs.declared.Listed.{Listed}
+use Rattle.listing.specs.Steps.{packetsMax, roomLeast}
+use Rattle.listing.specs.Inside.{Put}
+use Rattle.listing.specs.declared.Heard.{Heard}
+use Rattle.listing.specs.declared.Heard.the-variants.{More, Packet as Took, End, Refused}
+use Rattle.sbrlist.specs.Run.{isTaken, Counts}
 
--- ---- what was written fits
+-- ---- tests
 
-pub title-fits : (lent later : List ℕ) (w : Written) (n : ℕ) → IsTitle lent w later → length later ≡ length lent → n ≡ lengthIn w → n ≤ length lent
-title-fits lent later (Refused why) n st same e = omega arith
-title-fits lent later (Done m) n st same e =
-    let f = writes-frame false titleLine lent later (Done m) n st (ap some (sym e)) in
-    let g : length (take n later) ≡ n = ap length (f .0) ∙ sym (f .1) in
-    let h = rw length-take at g in
-    omega arith
+pub neither : (t u : Bool) → (t || u) ≡ false → (t ≡ false) × (u ≡ false)
+neither true u e = zero-is-one cc
+neither false u e = (refl, e)
 
-pub wrote-fits : (l : Listing) (input lent later : List ℕ) (ended : Bool) (r : Listed) → IsStep l input ended lent r later → length later ≡ length lent → r .wrote ≤ length lent
-wrote-fits l input lent later ended r st same =
-    let text = made l input ended (length lent) .text in
-    let wrote : r .wrote ≡ length text = ap (λ (v : Listed). v .wrote) (st .0) in
-    let both : length text + length (drop (length text) lent) ≡ length lent = sym (length-append text (drop (length text) lent)) ∙ sym (ap length (st .1)) ∙ same in
-    omega arith
+pub is-taken : (h : Heard) → isTaken h ≡ true → h ≡ Took
+is-taken More e = zero-is-one cc
+is-taken Took e = refl
+is-taken End e = zero-is-one cc
+is-taken (Refused why) e = zero-is-one cc
+
+-- ---- the header
+
+pub started : (lent later : List ℕ) (w : Written) (n : ℕ) → IsTitle lent w later → roomLeast ≤ length lent → n ≡ lengthIn w → Put titleLine lent n later
+started lent later w n st room e =
+    let one = writes-one false titleLine lent later (titleLine ++ drop (length titleLine) lent) w (Done (length titleLine)) st (writes-done titleLine lent (omega (arith, room))) in
+    (e ∙ ap lengthIn (one .0), one .1)
 
 -- ---- why it ends: packets are counted, and a read that is not the last brings bytes, of which none is waited for once a packet is at hand
 
@@ -44,11 +49,16 @@ awaits true = 0
 abbrev pub left : (count hand : ℕ) → Bool → ℕ
 left count hand ended = (packetsMax - count) * 1000 + (leadLength + pieceMax - hand) + awaits ended
 
-pub took-less : (p q a b : ℕ) (ended : Bool) → p < packetsMax → q ≡ p + 1 → left q b ended < left p a ended
-took-less p q a b true h e = omega arith
-took-less p q a b false h e = omega arith
+pub took-less : (p q a b u : ℕ) (ended : Bool) → Counts p q u → p < q → left q b ended < left p a ended
+took-less p q a b u true k h = omega (arith, k .2 h)
+took-less p q a b u false k h = omega (arith, k .2 h)
 
-pub more-less : (p q a b : ℕ) (e f : Bool) → q ≡ p → e ≡ false → a < leadLength + pieceMax → a ≤ b → (f ≡ false → a < b) → left q b f < left p a e
-more-less p q a b false true same x few on grows = omega arith
-more-less p q a b false false same x few on grows = omega (arith, grows refl)
-more-less p q a b true f same x few on grows = zero-is-one cc
+pub more-less : (p q a b u : ℕ) (e f : Bool) → Counts p q u → e ≡ false → a - u < leadLength + pieceMax → a - u ≤ b → (f ≡ false → a - u < b) → left q b f < left p a e
+more-less p q a b u true f k x few on grows = zero-is-one cc
+more-less p q a b u false f k x few on grows = go (eqb q p) refl f grows
+  where
+    go : (t : Bool) → eqb q p ≡ t → (g : Bool) → (g ≡ false → a - u < b) → left q b g < left p a false
+    go true e true w = omega (arith, eqb-true q p e, k .1 (eqb-true q p e))
+    go true e false w = omega (arith, eqb-true q p e, k .1 (eqb-true q p e), w refl)
+    go false e true w = let h : p < q = omega (arith, k .0, eqb-false q p e) in omega (arith, k .2 h)
+    go false e false w = let h : p < q = omega (arith, k .0, eqb-false q p e) in omega (arith, k .2 h)

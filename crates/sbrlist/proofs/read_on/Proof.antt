@@ -1,11 +1,21 @@
--- `read_on`: nothing at hand is lost, and a read that is not the last brings bytes.
--- Assumes nothing.
 use native.Mathlib.Omega.{arith}
-use mathlib.Core.Path.{refl}
-use borrow.Author.Tests.{eqb-false}
+use Prim.Native.Nat.{ℕ, _+_, _*_, _-_, _<_, _≤_}
+use mathlib.Core.Path.{_≡_, refl, sym, _∙_, ap}
+use mathlib.Core.Bool.{Bool, true, false}
+use lib.ListN.{length, getD, set, take, drop, replicate}
+use denote.Ref.{now}
+use borrow.Rule.Slice.PartMut.{take-put}
+use borrow.Author.Tests.{eqb-true, eqb-false}
+use Rattle.sbrlist.proofs.BufferParts.{front-moved}
 use borrow.Author.Needs.{needs}
 use Rattle.sbrlist.proofs.read_on.Statement.{statement}
 use Rattle.sbrlist.proofs.read_on.Tie as tie
+use Rattle.sbrlist.proofs.read_on.Reads as reads
+use Rattle.sbrlist.proofs.read_on.Lts as lts
+use Rattle.io.proofs.count.Reads as count-reads
+use Rattle.os.proofs.fail.Reads as fail-reads
+use Rattle.sbrlist.proofs.move_front.Reads as move-front-reads
+use Rattle.sbrlist.proofs.read_some.Reads as read-some-reads
 
 move-front-requires : tie.Need-move-front-requires
 move-front-requires c κs = search needs
@@ -13,23 +23,23 @@ move-front-requires c κs = search needs
 sub-n : tie.Need-sub-n
 sub-n c = search needs
 
-sub-read : tie.Need-sub-read
-sub-read c = search needs
+sub-read-some : tie.Need-sub-read-some
+sub-read-some c = search needs
 
-part-read-start : tie.Need-part-read-start
-part-read-start c = search needs
+part-read-some-start : tie.Need-part-read-some-start
+part-read-some-start c = search needs
 
-part-read-end : tie.Need-part-read-end
-part-read-end c = search needs
+part-read-some-end : tie.Need-part-read-some-end
+part-read-some-end c = search needs
 
-read-requires : tie.Need-read-requires
-read-requires c κs = search needs
+read-some-requires : tie.Need-read-some-requires
+read-some-requires c κs = search needs
 
-slice-aggregate-write-all : tie.Need-slice-aggregate-write-all
-slice-aggregate-write-all c = search needs
+slice-aggregate-fail : tie.Need-slice-aggregate-fail
+slice-aggregate-fail c = search needs
 
-write-all-requires : tie.Need-write-all-requires
-write-all-requires c κs = search needs
+fail-requires : tie.Need-fail-requires
+fail-requires c κs = search needs
 
 sub-count : tie.Need-sub-count
 sub-count c = search needs
@@ -50,7 +60,23 @@ same-length : tie.Need-same-length
 same-length c = search needs
 
 returns : tie.Need-returns
-returns c = (refl, omega arith, omega arith, λ e. omega (arith, eqb-false (c .count .result) 0 e))
+returns c =
+    let s = c .before .before .before .before .before .before .before .before .before .before .before .before .before in
+    let a = s .args in
+    let moved = c .before .before .before .before .before .before .before .before .before .before .move-front in
+    let n = a .to - a .from in
+    let more = c .count .result in
+    record {
+      at-front = refl;
+      inside = omega arith;
+      longer = omega arith;
+      kept =
+          take-put n (length (moved .last .0) - n) (moved .last .0) (c .before .before .before .before .before .before .read-some .last .0) (omega arith)
+          ∙ ap (take n) (moved .ensures)
+          ∙ front-moved (now (a .input)) (a .from) (a .to) (s .pre .0) (s .pre .1);
+      ends = λ e. omega (arith, eqb-true more 0 e);
+      brings = λ e. omega (arith, eqb-false more 0 e);
+    }
 
 pub read-on-spec : {M : Type 1} → statement M
 read-on-spec =
@@ -58,12 +84,12 @@ read-on-spec =
     (tie.spec
     move-front-requires
     sub-n
-    sub-read
-    part-read-start
-    part-read-end
-    read-requires
-    slice-aggregate-write-all
-    write-all-requires
+    sub-read-some
+    part-read-some-start
+    part-read-some-end
+    read-some-requires
+    slice-aggregate-fail
+    fail-requires
     sub-count
     part-count-start
     part-count-end

@@ -1,6 +1,7 @@
--- `start`: the header fits where it was written.
+-- `start`: there is room for the header.
 -- Assumes nothing.
-use Rattle.sbrlist.proofs.ProgramEnds.{title-fits}
+use native.Mathlib.Omega.{arith}
+use Rattle.sbrlist.proofs.ProgramEnds.{started}
 use borrow.Author.Needs.{needs}
 use Rattle.sbrlist.proofs.start.Statement.{statement}
 use Rattle.sbrlist.proofs.start.Tie as tie
@@ -17,7 +18,7 @@ same-length c = search needs
 returns : tie.Need-returns
 returns c =
     let h = c .before .before .before .title in
-    title-fits _ _ (h .result) _ (h .ensures) (h .kept .0) (c .length .ensures)
+    started _ _ (h .result) _ (h .ensures) (omega arith) (c .length .ensures)
 
 pub start-spec : {M : Type 1} → statement M
 start-spec = tie.close (tie.spec title-requires length-requires same-length returns)
