@@ -79,12 +79,12 @@ pub record OthersStay : Type 0 where
   pub removed : (roster other later : List ℕ) (address : ℕ) (r : Removed) (f h : Found)
       → (f ≡ Found.Address address → ⊥) → IsRemoved roster address r later → IsFound roster other f → IsFound later other h → h ≡ f
 
--- the place of an address holds these bytes afterwards, and every byte before and behind it is as it was
-pub record OnlyAt (address : ℕ) (held roster later : List ℕ) : Type 0 where
+-- the place of an address has this content afterwards, and every byte before and behind it is as it was
+pub record OnlyAt (address : ℕ) (content roster later : List ℕ) : Type 0 where
   pub first : 1 ≤ address
   pub last : address ≤ places
   pub size : length later ≡ length roster
-  pub bytes : later ≡ take ((address - 1) * placeSize) roster ++ (held ++ drop (address * placeSize) roster)
+  pub bytes : later ≡ take ((address - 1) * placeSize) roster ++ (content ++ drop (address * placeSize) roster)
 
 -- Only the one place changes: giving marks it as used by the serial, and removing zeroes it.
 pub record OnlyOnePlace : Type 0 where
