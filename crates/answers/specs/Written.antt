@@ -13,17 +13,17 @@ use Rattle.answers.specs.declared.Written.{Written}
 use Rattle.answers.specs.declared.Written.the-variants.{Done, Refused}
 
 abbrev pub told : Written → Answer
-told (Done length) = answer 0 (length ∷ [])
+told (Done n) = answer 0 (n ∷ [])
 told (Refused why) = refused 1 why
 
 -- the length, where something was written
 abbrev pub lengthOf : Written → Option ℕ
-lengthOf (Done length) = some length
+lengthOf (Done n) = some n
 lengthOf (Refused why) = none
 
 -- the same as a number, 0 where nothing was
 abbrev pub lengthIn : Written → ℕ
-lengthIn (Done length) = length
+lengthIn (Done n) = n
 lengthIn (Refused why) = 0
 
 -- what `Written::length` promises
