@@ -1,5 +1,6 @@
 pub mod MachineMoves
 pub mod StageRanges
+pub mod EnteredIsScanned
 pub mod JudgedIsDelivered
 pub mod WriterWritesFrame
 pub mod MachineFollowsRule

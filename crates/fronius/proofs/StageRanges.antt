@@ -17,7 +17,7 @@ pub data Range (stage count len : ℕ) : Type 0 where
   start : stage ≡ 0 → count ≤ 3 → len ≡ 0 → Range stage count len
   body : stage ≡ 1 → len ≤ 127 → count ≤ 3 + len → Range stage count len
 
-false-true : {A : Type 0} → false ≡ true → A
+pub false-true : {A : Type 0} → false ≡ true → A
 false-true e = zero-is-one cc
 
 pub range-of : (stage count len : ℕ) → Machine.inRange stage count len ≡ true → Range stage count len

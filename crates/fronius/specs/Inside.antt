@@ -1,10 +1,10 @@
 -- What the inner functions promise. No public promise cites this file: it need not be read.
-use Prim.Native.Nat.{ℕ, _+_, _-_, _≤_}
+use Prim.Native.Nat.{ℕ, _+_, _-_, _≤_, _<_}
 use mathlib.Core.Path.{_≡_}
 use mathlib.Core.Bool.{true}
 use mathlib.Core.Option.{Option, none, some}
 use mathlib.Core.List.{List, [], _∷_}
-use lib.ListN.{length, take}
+use lib.ListN.{length, take, getD}
 use Rattle.stream.specs.Event.{Event, damage}
 use Rattle.stream.specs.Event as Event
 use Rattle.stream.specs.Call.{retold}
@@ -16,6 +16,7 @@ use Rattle.fronius.specs.Machine.{holding, filling, inRange, next}
 use Rattle.fronius.specs.Reader.{told, header}
 use Rattle.fronius.specs.declared.reader.Header.{Header}
 use Rattle.fronius.specs.declared.reader.Answer.{Answer}
+use Rattle.fronius.specs.declared.reader.Entered.{Entered}
 use Rattle.fronius.specs.declared.reader.Ran.{Ran}
 use Rattle.fronius.specs.declared.reader.End.{End}
 use Rattle.fronius.specs.declared.reader.End.the-variants.{UsedUp, Closed, BadLength}
@@ -27,6 +28,18 @@ pub record Filled (count len : ℕ) (held piece : List ℕ) (i j : ℕ) (later :
   pub room : count + (j - i) ≤ 3 + len
   pub sized : length later ≡ length held
   pub goes : scanFrom next (filling count len held) piece i ≡ scanFrom next (filling (count + (j - i)) len later) piece j
+
+-- `opens`: a start is looked for, and three marks and a length stand at the front
+abbrev pub Opens : ℕ → List ℕ → Type 0
+Opens stage piece =
+    (stage ≡ 0) × (4 ≤ length piece) × (getD piece 0 0 ≡ mark) × (getD piece 1 0 ≡ mark) × (getD piece 2 0 ≡ mark) × (getD piece 3 0 < mark)
+
+-- `enter`: the call goes on from there, in a state in range
+pub record Enters (stage count len : ℕ) (held piece : List ℕ) (r : Entered) (later : List ℕ) : Type 0 where
+  pub within : r .at ≤ length piece
+  pub sized : length later ≡ length held
+  pub ranged : inRange (r .stage) (r .count) (r .len) ≡ true
+  pub goes : scanFrom next (holding (r .stage) (r .count) (r .len) later) piece (r .at) ≡ scan next (holding stage count len held) piece
 
 -- the event that a frame is, by its length, the checksum that came and the held bytes
 abbrev pub judgedFrame : ℕ → ℕ → List ℕ → Option (Event Message)

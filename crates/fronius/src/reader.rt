@@ -19,7 +19,7 @@ ghost use Rattle.fronius.specs.Wire.{payloadMax, checksum};
 ghost use Rattle.numbers.specs.Lists.{total};
 ghost use Rattle.fronius.specs.Machine.{heldMax, advanceOf, inRange};
 ghost use Rattle.fronius.specs.Reader.{IsFresh, IsStep, IsStepInPlace};
-ghost use Rattle.fronius.specs.Inside.{Filled, Fits, Runs, eventOf, judgedFrame, JudgedAs, Small, given};
+ghost use Rattle.fronius.specs.Inside.{Filled, Opens, Enters, Fits, Runs, eventOf, judgedFrame, JudgedAs, Small, given};
 
 // The limits, named here because the reader's own constants cannot size its own array. 80 80 80, length, device, number and command come before the data.
 const HEADER: usize = 7;
@@ -128,7 +128,7 @@ enum Move {
     Bad,
 }
 
-// Says what a byte asks in a stage. No other function decides what a byte means.
+// Says what a byte asks in a stage. Beside it only `opens` decides what a byte means.
 fn advance(stage: u8, count: usize, len: usize, b: u8) -> Move
     requires { ⌜ len ≤ payloadMax ⌝ }
     ensures { λ r. ⌜ r ≡ advanceOf stage count len b ⌝ }
@@ -187,16 +187,87 @@ fn fill(count: usize, len: usize, held: &mut [u8], piece: &[u8], from: usize) ->
     i
 }
 
-// The piece, byte by byte, up to the end of a frame, a bad length or the end of the piece.
+// Whether the piece begins with a whole start and a length, where a start is looked for. How many 80s came before makes no difference then.
+fn opens(stage: u8, piece: &[u8]) -> bool
+    ensures { λ r. ⌜ (r ≡ true → Opens stage (now (piece .entry))) ⌝ }
+{
+    if stage != AT_START {
+        return false;
+    }
+    if piece.len() < UNHELD {
+        return false;
+    }
+    if piece[0] != MARK {
+        return false;
+    }
+    if piece[1] != MARK {
+        return false;
+    }
+    if piece[2] != MARK {
+        return false;
+    }
+    piece[3] < MARK
+}
+
+// Takes in the body behind a start and a length at the front of the piece, as far as it is there. Gives the index after the last byte taken.
+// A header alone is stored byte by byte: the compiler makes a call of the loop in `fill`, which takes longer than three stores.
+fn take_body(len: usize, held: &mut [u8], piece: &[u8]) -> usize
+    requires { ⌜ (len ≤ payloadMax) × (4 ≤ length (now piece)) × (length (now held) ≡ heldMax) ⌝ }
+    ensures { λ r. ⌜ Filled 0 len (now (held .entry)) (now (piece .entry)) 4 r (now (held .exit)) ⌝ }
+{
+    if len == 0 {
+        if HEADER <= piece.len() {
+            held[0] = piece[4];
+            held[1] = piece[5];
+            held[2] = piece[6];
+            return HEADER;
+        }
+    }
+    fill(0, len, held, piece, UNHELD)
+}
+
+// The state to go on in byte by byte, and the index to go on from.
+struct Entered {
+    stage: u8,
+    count: usize,
+    len: usize,
+    at: usize,
+}
+
+// Takes in at once a whole start, a length and the body behind them, where the piece begins with them: so it does where frames follow one another.
+fn enter(stage: u8, count: usize, len: usize, held: &mut [u8], piece: &[u8]) -> Entered
+    requires { ⌜ (inRange stage count len ≡ true) × (length (now held) ≡ heldMax) ⌝ }
+    ensures { λ r. ⌜ Enters stage count len (now (held .entry)) (now (piece .entry)) r (now (held .exit)) ⌝ }
+{
+    if !opens(stage, piece) {
+        return Entered {
+            stage,
+            count,
+            len,
+            at: 0,
+        };
+    }
+    let n = piece[3] as usize;
+    let at = take_body(n, held, piece);
+    Entered {
+        stage: IN_BODY,
+        count: at - UNHELD,
+        len: n,
+        at,
+    }
+}
+
+// The piece, but for what `enter` takes of it, byte by byte, up to the end of a frame, a bad length or the end of the piece.
 // It is long because each move has its arm here: a call from an arm would have to lend the whole state.
 fn run_in(stage: u8, count: usize, len: usize, held: &mut [u8], piece: &[u8]) -> Ran
     requires { ⌜ (inRange stage count len ≡ true) × (length (now held) ≡ heldMax) ⌝ }
     ensures { λ r. ⌜ Runs stage count len (now (held .entry)) (now (piece .entry)) r (now (held .exit)) ⌝ }
 {
-    let mut stage = stage;
-    let mut count = count;
-    let mut len = len;
-    let mut i: usize = 0;
+    let entered = enter(stage, count, len, held, piece);
+    let mut stage = entered.stage;
+    let mut count = entered.count;
+    let mut len = entered.len;
+    let mut i = entered.at;
     while i < piece.len() {
         let b = piece[i];
         let m = advance(stage, count, len, b);
