@@ -40,7 +40,7 @@ const HELD: usize = BODY - UNHELD - SUM;
 // Where the data begin among the held bytes.
 const PAYLOAD_AT: usize = HEADER - UNHELD;
 
-// What the bytes read so far have led to. A field that the stage does not use is 0; what `held` has beyond `count` is left over and means nothing.
+// What the bytes read so far have led to. At the start `len` is 0 and no byte is held. What `held` has beyond the bytes held is left over and means nothing.
 pub struct Reader {
     // device, number, command and data, as far as they have come
     pub held: [u8; HELD],
