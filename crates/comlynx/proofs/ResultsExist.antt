@@ -25,11 +25,11 @@ use Rattle.comlynx.specs.declared.reader.Answer.{Answer}
 use Rattle.comlynx.specs.declared.reader.Answer.the-variants.{Done, Message as Read, Damaged}
 use Rattle.answers.specs.Answer.{need}
 use Rattle.comlynx_checksum.specs.Checksum.{agrees}
-use Rattle.comlynx.specs.Wire.{Message, bodyLeast, bodyMax, messageOf}
+use Rattle.comlynx.specs.Wire.{Message, bodyLeast, messageOf}
 use Rattle.comlynx.specs.Rules.{sized, begins, judged}
 use Rattle.comlynx.specs.Machine.{tooMany, advanceOf, moved, next}
 use Rattle.comlynx.specs.declared.reader.Move.the-variants.{Skip, Open, Mark, Spoil, Keep, Over, Close, Fail}
-use Rattle.comlynx.proofs.StageRanges.{Range, within, range-of, in-range, range-count, Asked, asked}
+use Rattle.comlynx.proofs.StageRanges.{within, range-of, in-range, range-count, Asked, asked}
 
 -- ---- what one byte does
 

@@ -1,6 +1,6 @@
 -- What the rule finds to be a message is that message's frame, and the writer takes it.
 -- Assumes nothing.
-use Prim.Native.Nat.{ℕ, suc, _+_, _≤_, _<_}
+use Prim.Native.Nat.{ℕ, suc, _+_, _≤_}
 use mathlib.Core.Path.{_≡_, refl, sym, ap, ap₂, _∙_, subst}
 use mathlib.Core.Bool.{Bool, true, false, cond, _&&_}
 use mathlib.Core.Option.{none, some}
@@ -19,7 +19,7 @@ use Rattle.stream.proofs.BytesOfParts.{bytes-at, bytes-tail, bytes-take, bytes-
 use Rattle.stream.proofs.BorneOutByBytes.{in-test, none-found, same-found, ends-nothing, Bears, bears-on, bears-at, bears-all}
 use Rattle.eversolar_words.specs.Words.{word, wordBytes}
 use Rattle.eversolar_words.proofs.WordLaws.{word-parts}
-use Rattle.eversolar.specs.Wire.{Message, Takes, payloadMax, firstMark, secondMark, earlierOf, checksum, wire, messageOf}
+use Rattle.eversolar.specs.Wire.{Message, Takes, firstMark, secondMark, earlierOf, checksum, wire, messageOf}
 use Rattle.eversolar.specs.Rules.{judged, frame, opens, sought, rule}
 use Rattle.eversolar.specs.Demands.{eversolar}
 

@@ -27,7 +27,7 @@ use Rattle.eversolar.specs.declared.reader.Answer.the-variants.{Done, Me
 use Rattle.eversolar_words.specs.Words.{word}
 use Rattle.eversolar.specs.Wire.{Message, secondMark, firstMark, earlierOf, checksum, messageOf}
 use Rattle.eversolar.specs.Rules.{judged}
-use Rattle.eversolar.specs.Machine.{on, holding, lookedOf, most, advanceOf, moved, next}
+use Rattle.eversolar.specs.Machine.{on, holding, lookedOf, advanceOf, moved, next}
 use Rattle.eversolar.specs.declared.reader.Move.the-variants.{Keep, Size, Close}
 use Rattle.eversolar.proofs.StageRanges.{Range, look, lead, body, range-of, in-range, range-idle, keeps-range, Asked, asked}
 

@@ -167,23 +167,23 @@ module _ (F : Family) (facts : Facts F) where
   abbrev AllBorne : List ℕ → List (Settled (Event (F .Message))) → Type 0
   AllBorne whole = Each (λ p. BorneOut F (take (p .used) whole) (gives (p .event)))
 
-  all-borne : (n : ℕ) (known : F .Known) (at : ℕ) (whole : List ℕ) → T (areBytes whole) → EndsWith (facts .before known) (take at whole)
+  all-borne : (n : ℕ) (known : F .Known) (at : ℕ) (whole : List ℕ) → T (areBytes whole) → EndsWith (facts .lastKnown known) (take at whole)
       → AllBorne whole (firstReadings (F .rule) (F .afterEvent) n known at (drop at whole))
   all-borne zero known at whole g e = tt
   all-borne (suc n) known at whole g e = go (F .rule known (drop at whole)) refl (λ a f. all-borne n (F .afterEvent) a whole g f)
     where
       go : (o : Option (Settled (Event (F .Message)))) → F .rule known (drop at whole) ≡ o
-          → ((a : ℕ) → EndsWith (facts .before (F .afterEvent)) (take a whole) → AllBorne whole (firstReadings (F .rule) (F .afterEvent) n (F .afterEvent) a (drop a whole)))
+          → ((a : ℕ) → EndsWith (facts .lastKnown (F .afterEvent)) (take a whole) → AllBorne whole (firstReadings (F .rule) (F .afterEvent) n (F .afterEvent) a (drop a whole)))
           → AllBorne whole (andOn at o (λ u. firstReadings (F .rule) (F .afterEvent) n (F .afterEvent) (at + u) (drop u (drop at whole))))
       go none q ih = tt
       go (some p) q ih =
           let u = p .used in
-          let part : List ℕ = facts .before known ++ take u (drop at whole) in
+          let part : List ℕ = facts .lastKnown known ++ take u (drop at whole) in
           let b = facts .borne-out known (drop at whole) (bytes-drop at whole g) p q in
-          let split : take (at + u) whole ≡ e .front ++ part = take-add at u whole ∙ ap (λ (l : List ℕ). l ++ take u (drop at whole)) (e .joins) ∙ append-assoc (e .front) (facts .before known) (take u (drop at whole)) in (
+          let split : take (at + u) whole ≡ e .front ++ part = take-add at u whole ∙ ap (λ (l : List ℕ). l ++ take u (drop at whole)) (e .joins) ∙ append-assoc (e .front) (facts .lastKnown known) (take u (drop at whole)) in (
             subst (λ (l : List ℕ). BorneOut F l (gives (p .event))) (sym split) (borne-later F (e .front) part (gives (p .event)) (b .0)),
             subst (λ (l : List ℕ). AllBorne whole (firstReadings (F .rule) (F .afterEvent) n (F .afterEvent) (at + u) l)) (sym (drop-drop u at whole))
-                (ih (at + u) (subst (EndsWith (facts .before (F .afterEvent))) (sym split) (ends-later (e .front) (b .1)))),
+                (ih (at + u) (subst (EndsWith (facts .lastKnown (F .afterEvent))) (sym split) (ends-later (e .front) (b .1)))),
           )
 
   told-borne : (whole : List ℕ) (ps : List (Settled (Event (F .Message)))) → AllBorne whole ps → Each (λ p. BorneOut F (take (p .used) whole) (p .event)) (map asTold ps)
@@ -193,7 +193,7 @@ module _ (F : Family) (facts : Facts F) where
   pub sound : Sound F
   sound cs al g =
       let whole = used F cs in
-      let none-yet : EndsWith (facts .before (F .atStart)) [] = record { front = []; joins = sym (facts .before-start) } in
+      let none-yet : EndsWith (facts .lastKnown (F .atStart)) [] = record { front = []; joins = sym (facts .none-at-start) } in
       subst (Each (λ p. BorneOut F (take (p .used) whole) (p .event))) (sym (accepts cs al g))
       (told-borne whole (readings (F .rule) (F .afterEvent) (F .atStart) whole) (all-borne (length whole) (F .atStart) 0 whole g none-yet))
 

@@ -37,11 +37,11 @@ pub record Facts (F : Family) : Type 1 where
   pub At : F .Known → F .State → Type 0
   pub at-start : At (F .atStart) (F .fresh)
   pub follows : (known : F .Known) (s : F .State) → At known s → (bs : List ℕ) → T (areBytes bs) → Follows (F .rule) next At known (F .afterEvent) s bs
-  -- what the rule finds is borne out by the bytes. `before` are those that are known to have come last: a frame may begin with them
-  pub before : F .Known → List ℕ
-  pub before-start : before (F .atStart) ≡ []
+  -- what the rule finds is borne out by the bytes. `lastKnown` are those that are known to have come last: a frame may begin with them
+  pub lastKnown : F .Known → List ℕ
+  pub none-at-start : lastKnown (F .atStart) ≡ []
   pub borne-out : (known : F .Known) (bs : List ℕ) → T (areBytes bs) → (p : Settled (Event (F .Message))) → F .rule known bs ≡ some p
-      → BorneOut F (before known ++ take (p .used) bs) (gives (p .event)) × EndsWith (before (F .afterEvent)) (before known ++ take (p .used) bs)
+      → BorneOut F (lastKnown known ++ take (p .used) bs) (gives (p .event)) × EndsWith (lastKnown (F .afterEvent)) (lastKnown known ++ take (p .used) bs)
   -- and of writing: the rule reads what is written, all of it bytes
   pub reads : (known : F .Known) (m : F .Message) → F .Takes m → F .rule known (F .wire m) ≡ some (record { event = message m; used = length (F .wire m) })
   pub wire-bytes : (m : F .Message) → F .Takes m → T (areBytes (F .wire m))
