@@ -27,8 +27,8 @@ READING = {
     ("fronius", 127): (3.8, 0.9, 1.0, 0.3),
 }
 WRITING = {
-    ("comlynx", 10): 1.3,
-    ("comlynx", 66): 1.0,
+    ("comlynx", 10): 0.9,
+    ("comlynx", 66): 0.9,
     ("comlynx", 255): 1.0,
     ("eversolar", 0): 0.4,
     ("eversolar", 66): 0.8,
@@ -37,7 +37,7 @@ WRITING = {
     ("fronius", 66): 0.9,
     ("fronius", 127): 0.9,
 }
-CHECKSUM = {16: 1.7, 255: 1.1, 4096: 1.1}
+CHECKSUM = {16: 1.5, 255: 1.1, 4096: 1.1}
 GIVING = {0: 1.1, 127: 1.1, 254: 1.1}
 DAYS = {  # ports, one line byte in how many is changed, packets, limit
     "clean": (frames.PORTS, 0, 512, 1.0),
