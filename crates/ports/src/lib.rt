@@ -3,6 +3,9 @@
 // `Ports::step` is for hosts that hold all readers by value and are handed a port and a piece, as `test_published` and `test_probe` do here.
 // Such a call copies all three readers, some 700 bytes. So `listing`, which calls often, chooses the port itself: it takes the reader out once
 // a packet, calls that reader alone, and puts it back.
+//
+// `Ports::step` goes by each reader's `step`. With `step_in_place` it would copy the held bytes itself: the prover does not cover that an array is
+// lent as a slice from inside a struct.
 use answers::Damage;
 use answers::Refusal;
 ghost use mathlib.Core.Path.{_≡_};
