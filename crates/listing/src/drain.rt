@@ -44,8 +44,8 @@ pub(crate) struct FroniusDrained {
     pub damages: u64,
 }
 
-// One function a family, the same but for its reader and its line. The last step is kept whole: its reader goes straight into the
-// next call, which saves a copy of the state.
+// One function a family, the same but for its reader and its line. The held bytes stay here and are lent to each call, which copies none of them.
+// The last step is kept whole: its numbers go straight into the next call.
 pub(crate) fn drain_comlynx(
     reader: comlynx::Reader,
     port: u8,
@@ -56,9 +56,11 @@ pub(crate) fn drain_comlynx(
     ensures { λ r. ⌜ Drains ComlynxMachine.next Comlynx.inRange showComlynx reader port (now (piece .entry)) (now (out .entry)) (r .reader) (r .spoilt) (r .wrote) (r .messages) (r .damages) (now (out .exit)) ⌝ }
 {
     let mut lent = [0u8; LENT];
+    let mut held = reader.held;
     let answer = comlynx::Answer::Done;
-    let mut s = comlynx::Step {
-        reader,
+    let mut s = comlynx::StepInPlace {
+        stage: reader.stage,
+        count: reader.count,
         answer,
         used: 0,
     };
@@ -68,7 +70,7 @@ pub(crate) fn drain_comlynx(
     let mut damages: u64 = 0;
     let mut at: usize = 0;
     while at < piece.len() {
-        s = s.reader.step(&piece[at..], &mut lent);
+        s = comlynx::step_in_place(s.stage, s.count, &mut held, &piece[at..], &mut lent);
         at += s.used;
         let answer = s.answer;
         match answer {
@@ -87,7 +89,11 @@ pub(crate) fn drain_comlynx(
             }
         }
     }
-    let next = s.reader;
+    let next = comlynx::Reader {
+        held,
+        stage: s.stage,
+        count: s.count,
+    };
     ComlynxDrained {
         reader: next,
         spoilt,
@@ -107,9 +113,12 @@ pub(crate) fn drain_eversolar(
     ensures { λ r. ⌜ Drains EversolarMachine.next Eversolar.inRange showEversolar reader port (now (piece .entry)) (now (out .entry)) (r .reader) (r .spoilt) (r .wrote) (r .messages) (r .damages) (now (out .exit)) ⌝ }
 {
     let mut lent = [0u8; LENT];
+    let mut held = reader.held;
     let answer = eversolar::Answer::Done;
-    let mut s = eversolar::Step {
-        reader,
+    let mut s = eversolar::StepInPlace {
+        stage: reader.stage,
+        count: reader.count,
+        len: reader.len,
         answer,
         used: 0,
     };
@@ -119,7 +128,7 @@ pub(crate) fn drain_eversolar(
     let mut damages: u64 = 0;
     let mut at: usize = 0;
     while at < piece.len() {
-        s = s.reader.step(&piece[at..], &mut lent);
+        s = eversolar::step_in_place(s.stage, s.count, s.len, &mut held, &piece[at..], &mut lent);
         at += s.used;
         let answer = s.answer;
         match answer {
@@ -138,7 +147,12 @@ pub(crate) fn drain_eversolar(
             }
         }
     }
-    let next = s.reader;
+    let next = eversolar::Reader {
+        held,
+        stage: s.stage,
+        count: s.count,
+        len: s.len,
+    };
     EversolarDrained {
         reader: next,
         spoilt,
@@ -158,9 +172,12 @@ pub(crate) fn drain_fronius(
     ensures { λ r. ⌜ Drains FroniusMachine.next Fronius.inRange showFronius reader port (now (piece .entry)) (now (out .entry)) (r .reader) (r .spoilt) (r .wrote) (r .messages) (r .damages) (now (out .exit)) ⌝ }
 {
     let mut lent = [0u8; LENT];
+    let mut held = reader.held;
     let answer = fronius::Answer::Done;
-    let mut s = fronius::Step {
-        reader,
+    let mut s = fronius::StepInPlace {
+        stage: reader.stage,
+        count: reader.count,
+        len: reader.len,
         answer,
         used: 0,
     };
@@ -170,7 +187,7 @@ pub(crate) fn drain_fronius(
     let mut damages: u64 = 0;
     let mut at: usize = 0;
     while at < piece.len() {
-        s = s.reader.step(&piece[at..], &mut lent);
+        s = fronius::step_in_place(s.stage, s.count, s.len, &mut held, &piece[at..], &mut lent);
         at += s.used;
         let answer = s.answer;
         match answer {
@@ -189,7 +206,12 @@ pub(crate) fn drain_fronius(
             }
         }
     }
-    let next = s.reader;
+    let next = fronius::Reader {
+        held,
+        stage: s.stage,
+        count: s.count,
+        len: s.len,
+    };
     FroniusDrained {
         reader: next,
         spoilt,

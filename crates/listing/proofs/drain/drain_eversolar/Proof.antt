@@ -2,24 +2,25 @@
 -- Assumes nothing.
 use Prim.Native.Nat.{ℕ, _+_, _-_, _*_, _≤_, _<_}
 use mathlib.Core.Path.{_≡_, refl, sym, ap, _∙_, subst}
-use mathlib.Core.Logic.{⊎-elim}
-use mathlib.Core.Bool.{false}
+use mathlib.Core.Bool.{true, false}
 use mathlib.Core.Option.{Option}
 use mathlib.Core.List.{List, _++_}
-use lib.ListN.{length, take, drop, length-drop, length-replicate}
+use lib.ListN.{length, take, drop, length-drop, length-replicate, length-map}
 use lib.Seq.{sets}
 use native.Mathlib.Nat.{add-zero}
 use native.Mathlib.Omega.{arith}
 use borrow.Author.Needs.{needs}
 use Rattle.stream.specs.Event.{Event}
-use Rattle.stream.specs.Call.{lentLeast, retold}
+use Rattle.stream.specs.Call.{lentLeast, retold, Steps}
 use Rattle.stream.proofs.HostRelies.{Fine, step-used, step-fits}
+use Rattle.stream.proofs.InPlaceIsStep.{in-place-is-step}
 use Rattle.eversolar.specs.Wire.{Message}
-use Rattle.eversolar.specs.Machine.{next}
-use Rattle.eversolar.specs.Reader.{inRange, header, told, shown, join, IsStep}
+use Rattle.eversolar.specs.Machine.{heldMax, next}
+use Rattle.eversolar.specs.Reader.{inRange, header, told, shown, join, together, whole, IsStep}
 use Rattle.eversolar.specs.declared.reader.Reader.{Reader}
 use Rattle.eversolar.specs.declared.reader.Header.{Header}
 use Rattle.eversolar.specs.declared.reader.Step.{Step}
+use Rattle.eversolar.specs.declared.reader.StepInPlace.{StepInPlace}
 use Rattle.eversolar.specs.declared.reader.Answer.{Answer}
 use Rattle.eversolar.specs.declared.reader.Answer.the-variants.{Done, Message as Read, Damaged, Refused}
 use Rattle.eversolar.proofs.FamilyFacts.{joins}
@@ -34,85 +35,104 @@ use Rattle.listing.proofs.drain.drain_eversolar.Tie as tie
 abbrev Keeps : (port : ℕ) → Reader → (piece out₀ : List ℕ) → Reader → (at wrote messages damages : ℕ) → (out : List ℕ) → Type 0
 Keeps port = Kept next inRange header (λ m. m .payload) shown join joins showEversolar port eversolarWeight
 
+-- the reader that a step hands back in parts
+abbrev readerOf : List ℕ → StepInPlace → Reader
+readerOf held s = together held s .reader
+
 abbrev Inv-loop : tie.InvT-loop
-Inv-loop port piece out₀ lent₀ s₀ spoilt₀ wrote₀ messages₀ damages₀ at₀ out lent s spoilt wrote messages damages at =
-    Keeps port (s₀ .reader) piece out₀ (s .reader) at wrote messages damages out × (length lent ≡ lentLeast) × (spoilt ≡ false)
+Inv-loop port piece out₀ lent₀ held₀ s₀ spoilt₀ wrote₀ messages₀ damages₀ at₀ out lent held s spoilt wrote messages damages at =
+    Keeps port (readerOf held₀ s₀) piece out₀ (readerOf held s) at wrote messages damages out × (length lent ≡ lentLeast) × (spoilt ≡ false) × (length held ≡ heldMax)
 
 abbrev μ-loop : tie.MeasureT-loop
-μ-loop port piece out₀ lent₀ s₀ spoilt₀ wrote₀ messages₀ damages₀ at₀ out lent s spoilt wrote messages damages at = length piece - at
+μ-loop port piece out₀ lent₀ held₀ s₀ spoilt₀ wrote₀ messages₀ damages₀ at₀ out lent held s spoilt wrote messages damages at = length piece - at
 
 -- ---- a turn, and what is known of its call
 
 abbrev portOf : tie.At-loop Inv-loop μ-loop → ℕ
-portOf l = l .before .before .before .args .port
+portOf l = l .before .before .before .before .args .port
 
 abbrev entryLine : tie.At-loop Inv-loop μ-loop → List ℕ
-entryLine l = l .before .before .before .args .piece .now
+entryLine l = l .before .before .before .before .args .piece .now
 
 abbrev leftOf : tie.At-loop Inv-loop μ-loop → List ℕ
 leftOf l = drop (l .loop .at) (entryLine l)
 
 abbrev outOf : tie.At-loop Inv-loop μ-loop → List ℕ
-outOf l = l .before .before .before .args .out .now
+outOf l = l .before .before .before .before .args .out .now
 
 weighs : (l : tie.At-loop Inv-loop μ-loop) → Weighs next showEversolar (portOf l) eversolarWeight
-weighs l = eversolar-weighs (portOf l) (omega (arith, l .before .before .before .pre .1))
+weighs l = eversolar-weighs (portOf l) (omega (arith, l .before .before .before .before .pre .1))
 
 short : (l : tie.At-loop Inv-loop μ-loop) → length (entryLine l) ≤ pieceMax
-short l = l .before .before .before .pre .3
+short l = l .before .before .before .before .pre .3
 
 same : (l : tie.At-loop Inv-loop μ-loop) → length (l .loop .out) ≡ length (outOf l)
 same l = kept-length next inRange header (λ m. m .payload) shown join joins showEversolar (portOf l) eversolarWeight (weighs l) (l .loop .inv .0)
 
 wide : (l : tie.At-loop Inv-loop μ-loop) → roomLeast ≤ length (l .loop .out)
-wide l = omega (arith, l .before .before .before .pre .4, same l)
+wide l = omega (arith, l .before .before .before .before .pre .4, same l)
 
-abbrev turn : tie.After-step Inv-loop μ-loop → tie.At-loop Inv-loop μ-loop
-turn c = c .before .before .before .before
+abbrev turn : tie.After-step-in-place Inv-loop μ-loop → tie.At-loop Inv-loop μ-loop
+turn c = c .before .before .before .before .before
 
-abbrev later : tie.After-step Inv-loop μ-loop → List ℕ
-later c = c .step .last .1 .1 .0
+-- the reader before the call, the step that the call made, and the buffer afterwards
+abbrev reader : tie.At-loop Inv-loop μ-loop → Reader
+reader l = readerOf (l .loop .held) (l .loop .s)
 
-stepped : (c : tie.After-step Inv-loop μ-loop) → IsStep (turn c .loop .s .reader) (leftOf (turn c)) (turn c .loop .lent) (c .step .result) (later c)
+abbrev heldLater : tie.After-step-in-place Inv-loop μ-loop → List ℕ
+heldLater c = c .step-in-place .last .1 .1 .1 .0
+
+abbrev result : tie.After-step-in-place Inv-loop μ-loop → Step
+result c = together (heldLater c) (c .step-in-place .result)
+
+abbrev later : tie.After-step-in-place Inv-loop μ-loop → List ℕ
+later c = c .step-in-place .last .1 .1 .1 .1 .1 .0
+
+stepped : (c : tie.After-step-in-place Inv-loop μ-loop) → IsStep (reader (turn c)) (leftOf (turn c)) (turn c .loop .lent) (result c) (later c)
 stepped c =
-    subst (λ (p : List ℕ). IsStep (turn c .loop .s .reader) p (turn c .loop .lent) (c .step .result) (later c)) (rest (entryLine (turn c)) (turn c .loop .at)) (c .step .ensures)
+    let l = turn c in
+    in-place-is-step (λ r. r .held) heldMax inRange next header (λ m. m .payload) shown (reader l) (leftOf l) (l .loop .lent) (later c) (result c) (l .loop .inv .3)
+    (subst (λ (p : List ℕ). Steps next whole header (λ m. m .payload) shown (reader l) p (l .loop .lent) (result c) (later c)) (rest (entryLine l) (l .loop .at)) (c .step-in-place .ensures))
 
-lent-least : (c : tie.After-step Inv-loop μ-loop) → lentLeast ≤ length (turn c .loop .lent)
+lent-least : (c : tie.After-step-in-place Inv-loop μ-loop) → lentLeast ≤ length (turn c .loop .lent)
 lent-least c = omega (arith, turn c .loop .inv .1)
 
-lent-later : (c : tie.After-step Inv-loop μ-loop) → length (later c) ≡ length (turn c .loop .lent)
-lent-later c = c .step .kept .1 .1 .0
+lent-later : (c : tie.After-step-in-place Inv-loop μ-loop) → length (later c) ≡ length (turn c .loop .lent)
+lent-later c = c .step-in-place .kept .1 .1 .1 .1 .1 .0
 
-used-at-most : (c : tie.After-step Inv-loop μ-loop) → c .step .result .used ≤ length (leftOf (turn c))
-used-at-most c = step-used next inRange header (λ m. m .payload) shown (turn c .loop .s .reader) (leftOf (turn c)) (turn c .loop .lent) (later c) (c .step .result) (stepped c)
+held-later : (c : tie.After-step-in-place Inv-loop μ-loop) → length (heldLater c) ≡ length (turn c .loop .held)
+held-later c = c .step-in-place .kept .1 .1 .1 .0
 
-fits : (c : tie.After-step Inv-loop μ-loop) (h : Header) → c .step .result .answer ≡ Read h → h .len ≤ lentLeast
+used-at-most : (c : tie.After-step-in-place Inv-loop μ-loop) → result c .used ≤ length (leftOf (turn c))
+used-at-most c = step-used next inRange header (λ m. m .payload) shown (reader (turn c)) (leftOf (turn c)) (turn c .loop .lent) (later c) (result c) (stepped c)
+
+fits : (c : tie.After-step-in-place Inv-loop μ-loop) (h : Header) → result c .answer ≡ Read h → h .len ≤ lentLeast
 fits c h e =
-    let u = step-fits next inRange header (λ m. m .payload) shown (λ (v : Header). v .len) (λ m. refl) (turn c .loop .s .reader) (leftOf (turn c)) (turn c .loop .lent) (later c) (c .step .result) h (stepped c) (lent-later c) (ap told e) in
+    let u = step-fits next inRange header (λ m. m .payload) shown (λ (v : Header). v .len) (λ m. refl) (reader (turn c)) (leftOf (turn c)) (turn c .loop .lent) (later c) (result c) h (stepped c) (lent-later c) (ap told e) in
     omega (arith, turn c .loop .inv .1)
 
 -- ---- a call that was not refused
 
-module _ (c : tie.After-step Inv-loop μ-loop) where
+module _ (c : tie.After-step-in-place Inv-loop μ-loop) where
   abbrev tells : Answer → Option (Event Message)
   tells a = given (retold (λ h. join h (later c)) (told a))
 
   abbrev lineTold : Answer → List ℕ
   lineTold a = lineFor showEversolar (portOf (turn c)) (tells a)
 
-  module _ (a : Answer) (e : c .step .result .answer ≡ a) (fine : Fine (told a)) where
-    goes : Went next inRange header (λ m. m .payload) shown join joins (turn c .loop .s .reader) (leftOf (turn c)) (c .step .result) (tells a)
+  module _ (a : Answer) (e : result c .answer ≡ a) (fine : Fine (told a)) where
+    goes : Went next inRange header (λ m. m .payload) shown join joins (reader (turn c)) (leftOf (turn c)) (result c) (tells a)
     goes =
-        went next inRange header (λ m. m .payload) shown join joins (turn c .loop .s .reader) (leftOf (turn c)) (turn c .loop .lent) (later c) (c .step .result)
+        went next inRange header (λ m. m .payload) shown join joins (reader (turn c)) (leftOf (turn c)) (turn c .loop .lent) (later c) (result c)
         (stepped c) (lent-least c) (tells a) (subst (λ (v : Answer). Fine (told v)) (sym e) fine) (ap tells e)
 
-    uses : turn c .loop .at + c .step .result .used ≤ length (entryLine (turn c))
+    uses : turn c .loop .at + result c .used ≤ length (entryLine (turn c))
     uses = line-used next inRange header (λ m. m .payload) shown join joins showEversolar (portOf (turn c)) eversolarWeight (weighs (turn c)) (turn c .loop .inv .0) goes
 
-    moves : 0 < c .step .result .used
+    moves : 0 < result c .used
     moves =
         line-uses next inRange header (λ m. m .payload) shown join joins showEversolar (portOf (turn c)) eversolarWeight (weighs (turn c)) (turn c .loop .inv .0) goes
-        (c .before .before .before .loop-test .taken)
+        (c .before .before .before .before .loop-test .taken)
 
     -- there is room for its line
     room : turn c .loop .wrote + length (lineTold a) ≤ heldMost + perByte * pieceMax
@@ -127,48 +147,58 @@ module _ (c : tie.After-step Inv-loop μ-loop) where
         → messages ≡ turn c .loop .messages + messageFor showEversolar (portOf (turn c)) (tells a)
         → damages ≡ turn c .loop .damages + damageFor showEversolar (portOf (turn c)) (tells a)
         → out ≡ sets (turn c .loop .out) (turn c .loop .wrote) (lineTold a)
-        → Keeps (portOf (turn c)) (turn c .before .before .before .args .reader) (entryLine (turn c)) (outOf (turn c)) (c .step .result .reader)
-        (turn c .loop .at + c .step .result .used) wrote messages damages out
-        × (length (later c) ≡ lentLeast) × (turn c .loop .spoilt ≡ false)
+        → Keeps (portOf (turn c)) (turn c .before .before .before .before .args .reader) (entryLine (turn c)) (outOf (turn c)) (result c .reader)
+        (turn c .loop .at + result c .used) wrote messages damages out
+        × (length (later c) ≡ lentLeast) × (turn c .loop .spoilt ≡ false) × (length (heldLater c) ≡ heldMax)
     keeps wrote messages damages out ew em ed eo = (
       turns next inRange header (λ m. m .payload) shown join joins showEversolar (portOf (turn c)) eversolarWeight (weighs (turn c)) (turn c .loop .inv .0) goes (stepped c .2)
-          (c .before .before .before .loop-test .taken) wrote messages damages out ew em ed eo,
+          (c .before .before .before .before .loop-test .taken) wrote messages damages out ew em ed eo,
       lent-later c ∙ turn c .loop .inv .1,
       turn c .loop .inv .2,
+      held-later c ∙ turn c .loop .inv .3,
     )
 
 -- ---- the places
 
-abbrev back : tie.After-struct-known Inv-loop μ-loop → tie.After-step Inv-loop μ-loop
-back c = c .before .before
+abbrev back : tie.After-struct-known Inv-loop μ-loop → tie.After-step-in-place Inv-loop μ-loop
+back c = c .before .before .before
+
+-- the reader's own held bytes are all there
+full-at : (c : tie.Start Inv-loop μ-loop) → length (c .args .reader .held) ≡ heldMax
+full-at c = sym (length-map (c .args .reader .held) (λ (v : ℕ). v)) ∙ c .good .0 .1 .1 .0 .1 .0 .1
 
 loop-holds : tie.Need-loop-holds Inv-loop μ-loop
-loop-holds c = (
-  begins next inRange header (λ m. m .payload) shown join joins showEversolar (c .before .before .args .port) eversolarWeight eversolar-heavy (c .before .before .args .reader) (c .before .before .args .piece .now) (c .before .before .args .out .now),
-  length-replicate {A = ℕ} lentLeast 0,
-  refl,
-)
+loop-holds c =
+    let s = c .before .before .before in (
+      begins next inRange header (λ m. m .payload) shown join joins showEversolar (s .args .port) eversolarWeight eversolar-heavy (s .args .reader) (s .args .piece .now) (s .args .out .now),
+      length-replicate {A = ℕ} lentLeast 0,
+      refl,
+      full-at s,
+    )
 
-sub-step : tie.Need-sub-step Inv-loop μ-loop
-sub-step c = search needs
+slice-aggregate-step-in-place : tie.Need-slice-aggregate-step-in-place Inv-loop μ-loop
+slice-aggregate-step-in-place c = search needs
 
-part-step-start : tie.Need-part-step-start Inv-loop μ-loop
-part-step-start c = search needs
+sub-step-in-place : tie.Need-sub-step-in-place Inv-loop μ-loop
+sub-step-in-place c = search needs
 
-part-step-end : tie.Need-part-step-end Inv-loop μ-loop
-part-step-end c = search needs
+part-step-in-place-start : tie.Need-part-step-in-place-start Inv-loop μ-loop
+part-step-in-place-start c = search needs
 
-slice-aggregate-step : tie.Need-slice-aggregate-step Inv-loop μ-loop
-slice-aggregate-step c = search needs
+part-step-in-place-end : tie.Need-part-step-in-place-end Inv-loop μ-loop
+part-step-in-place-end c = search needs
 
-step-requires : tie.Need-step-requires Inv-loop μ-loop
-step-requires c κs = search needs
+slice-aggregate-step-in-place-2 : tie.Need-slice-aggregate-step-in-place-2 Inv-loop μ-loop
+slice-aggregate-step-in-place-2 c = search needs
+
+step-in-place-requires : tie.Need-step-in-place-requires Inv-loop μ-loop
+step-in-place-requires c κs = search needs
 
 add-at : tie.Need-add-at Inv-loop μ-loop
 add-at c =
     let k = back c in
     let l = turn k in
-    omega (arith, used-at-most k, length-drop (l .loop .at) (entryLine l), short l, k .before .before .before .loop-test .taken)
+    omega (arith, used-at-most k, length-drop (l .loop .at) (entryLine l), short l, k .before .before .before .before .loop-test .taken)
 
 enum-told : tie.Need-enum-told Inv-loop μ-loop
 enum-told c = search needs
@@ -290,23 +320,26 @@ enum-told-2 : tie.Need-enum-told-2 Inv-loop μ-loop
 enum-told-2 c = search needs
 
 same-length : tie.Need-same-length Inv-loop μ-loop
-same-length c = same (c .before .before)
+same-length c = same (c .before)
 
 returns : tie.Need-returns Inv-loop μ-loop
 returns c =
-    let l = c .before .before in
-    let s = l .before .before .before in
-    let x = c .before .loop-test in
-    ⊎-elim
-    (λ a.
-    ends next inRange header (λ m. m .payload) shown join joins showEversolar (portOf l) eversolarWeight (weighs l) (l .loop .inv .0) (x .s .reader) (x .spoilt)
-    (ap (λ (v : Step). v .reader) (a .1)) (a .2 ∙ l .loop .inv .2) (a .0 .left) (s .pre .2) (s .pre .3) (s .pre .4))
-    (λ b.
-    let k : tie.After-step Inv-loop μ-loop = record { before = record { before = record { before = record { before = l; loop-test = b .0 }; step-arg = b .1 }; lent = b .2 }; step = b .3 } in
-    let bad = spoils next inRange header (λ m. m .payload) shown join joins (l .loop .s .reader) (leftOf l) (l .loop .lent) (later k) (k .step .result) (stepped k) (lent-least k) _ (ap told (b .7 .given .1)) in
-    ends-spoilt next inRange header (λ m. m .payload) shown join joins showEversolar (portOf l) eversolarWeight (weighs l) (l .loop .inv .0) (x .s .reader) (x .spoilt)
-    (ap (λ (v : Step). v .reader) (b .8) ∙ bad .1) (b .9) (bad .0) (s .pre .3))
-    (x .came)
+    let l = c .before in
+    let s = l .before .before .before .before in
+    ends next inRange header (λ m. m .payload) shown join joins showEversolar (portOf l) eversolarWeight (weighs l) (l .loop .inv .0) (reader l) (l .loop .spoilt)
+    refl (l .loop .inv .2) (c .loop-test .left) (s .pre .2) (s .pre .3) (s .pre .4)
+
+same-length-2 : tie.Need-same-length-2 Inv-loop μ-loop
+same-length-2 c = same (turn (back (c .before .before)))
+
+returns-2 : tie.Need-returns-2 Inv-loop μ-loop
+returns-2 c =
+    let k = back (c .before .before) in
+    let l = turn k in
+    let s = l .before .before .before .before in
+    let bad = spoils next inRange header (λ m. m .payload) shown join joins (reader l) (leftOf l) (l .loop .lent) (later k) (result k) (stepped k) (lent-least k) _ (ap told (c .enum-told2 .given .1)) in
+    ends-spoilt next inRange header (λ m. m .payload) shown join joins showEversolar (portOf l) eversolarWeight (weighs l) (l .loop .inv .0) (result k .reader) true
+    (bad .1) refl (bad .0) (s .pre .3)
 
 pub drain-eversolar-spec : {M : Type 1} → statement M
 drain-eversolar-spec =
@@ -315,11 +348,12 @@ drain-eversolar-spec =
     Inv-loop
     μ-loop
     loop-holds
-    sub-step
-    part-step-start
-    part-step-end
-    slice-aggregate-step
-    step-requires
+    slice-aggregate-step-in-place
+    sub-step-in-place
+    part-step-in-place-start
+    part-step-in-place-end
+    slice-aggregate-step-in-place-2
+    step-in-place-requires
     add-at
     enum-told
     loop-less
@@ -345,4 +379,6 @@ drain-eversolar-spec =
     loop-again-3
     enum-told-2
     same-length
-    returns)
+    returns
+    same-length-2
+    returns-2)
