@@ -2,15 +2,15 @@
 -- Assumes nothing.
 use Prim.Native.Nat.{ℕ}
 use mathlib.Core.Path.{_≡_, refl, ap, _∙_}
-use mathlib.Core.Bool.{Bool, true, false, cond, _&&_}
+use mathlib.Core.Bool.{Bool, true, false, _&&_}
 use mathlib.Core.List.{List}
 use lib.ListN.{length}
-use lib.Dec.{eqb, ltb}
+use lib.Dec.{eqb}
 use borrow.Author.Tests.{eq-eqb, eqb-true}
 use Rattle.numbers.proofs.Alike.{zero-is-one}
 use Rattle.stream.specs.Event.{Event}
-use Rattle.stream.specs.Pieces.{Moved, scan}
-use Rattle.stream.specs.Call.{Seen, lentLeast, unmoved, answered, called, delivered, retells, Steps, whole}
+use Rattle.stream.specs.Pieces.{Moved}
+use Rattle.stream.specs.Call.{Seen, called, delivered, retells, Steps, whole}
 
 both : (a b : Bool) → a && b ≡ true → (a ≡ true) × (b ≡ true)
 both true b e = (refl, e)
@@ -27,8 +27,7 @@ module _ {S : Type 0} (held : S → List ℕ) (full : ℕ) (inRange : S → Bool
 
   module _ {M H R : Type 0} (next : S → ℕ → Moved S (Event M)) (header : M → H) (payload : M → List ℕ) (shown : R → Seen S H) where
     same-call : (s : S) (piece lent : List ℕ) → length (held s) ≡ full → called next (whole held full inRange) s piece lent ≡ called next inRange s piece lent
-    same-call s piece lent e =
-        ap (λ (b : Bool). cond b (cond (ltb (length lent) lentLeast) (unmoved 9 s) (answered (scan next s piece))) (unmoved 18 s)) (whole-full s e)
+    same-call s piece lent e = rw (eq-eqb (length (held s)) full e)
 
     pub in-place-is-step : (s : S) (piece lent later : List ℕ) (r : R) → length (held s) ≡ full
         → Steps next (whole held full inRange) header payload shown s piece lent r later → Steps next inRange header payload shown s piece lent r later
