@@ -47,7 +47,7 @@ in-counts l e =
     let two = both (leb (l .messages) (pieceMax * l .packets)) (leb (l .damages) (pieceMax * l .packets)) (one .1) in
     (leb-true (l .packets) packetsMax (one .0), leb-true (l .messages) (pieceMax * l .packets) (two .0), leb-true (l .damages) (pieceMax * l .packets) (two .1))
 
-counts-in : (l : Listing) → l .packets ≤ packetsMax → l .messages ≤ pieceMax * l .packets → l .damages ≤ pieceMax * l .packets → inRange l ≡ true
+pub counts-in : (l : Listing) → l .packets ≤ packetsMax → l .messages ≤ pieceMax * l .packets → l .damages ≤ pieceMax * l .packets → inRange l ≡ true
 unfolding inRange
 counts-in l p m d = rw (le-leb (l .packets) packetsMax p, le-leb (l .messages) (pieceMax * l .packets) m, le-leb (l .damages) (pieceMax * l .packets) d)
 
@@ -102,7 +102,7 @@ nothing l m lent r a b e = (e, rw b, λ s. subst Sound (sym (ap (λ (x : Listed)
 -- ---- the reader of a seat among the ports
 
 -- one in range put there, and all that were in range are
-still-readable : (at other : Seat) (ps : Ports) (s : rowOf at .family .State) → rowOf at .inRange s ≡ true
+pub still-readable : (at other : Seat) (ps : Ports) (s : rowOf at .family .State) → rowOf at .inRange s ≡ true
     → readableOn (some other) ps ≡ true → readableOn (some other) (rowOf at .put ps s) ≡ true
 still-readable at other ps s h x = go (same-seat at other)
   where

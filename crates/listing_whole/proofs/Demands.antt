@@ -122,11 +122,11 @@ module _ (l : Listing) (sound : Sound l) (why : Refusal) where
       go true e = zero-is-one cc
       go false e = packet-not (b ∷ bs) ended (kind (b ∷ bs)) e
 
-  made-not : (s : List ℕ) (ended : Bool) (room : ℕ) → roomLeast ≤ room → made l s ended room .heard ≡ Refused why → ⊥
+  pub made-not : (s : List ℕ) (ended : Bool) (room : ℕ) → roomLeast ≤ room → made l s ended room .heard ≡ Refused why → ⊥
   unfolding made
   made-not s ended room h = rw (sound .counts, le-leb roomLeast room h) (going-not s ended)
 
-fresh-sound : (l : Listing) → IsFresh l → Sound l
+pub fresh-sound : (l : Listing) → IsFresh l → Sound l
 unfolding inRange
 fresh-sound l e = record {
   counts = rw (e .packets, e .messages, e .damages) refl;

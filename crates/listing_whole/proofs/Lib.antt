@@ -7,4 +7,5 @@ pub mod CallsMakeListing
 pub mod EntriesByPort
 pub mod StoredDayIsListed
 pub mod Demands
+pub mod PrintsExist
 pub mod Cases

@@ -67,6 +67,25 @@ NeverRefused =
     (l : Listing) → Reached l → (input lent later : List ℕ) (ended : Bool) (r : Listed) → IsStep l input ended lent r later → roomLeast ≤ length lent
     → (why : Refusal) → r .heard ≡ Refused why → ⊥
 
+-- a result of this call that the promise of `step` allows
+pub record Result (l : Listing) (input : List ℕ) (ended : Bool) (lent : List ℕ) : Type 0 where
+  pub result : Listed
+  pub later : List ℕ
+  pub steps : IsStep l input ended lent result later
+
+-- every call has one: on any listing, forged ones too, whatever bytes are at hand and whatever is lent
+abbrev pub Answers : Type 0
+Answers = (l : Listing) (input lent : List ℕ) (ended : Bool) → T (areBytes input) → Result l input ended lent
+
+-- a text that a host prints, from a listing on, of the input
+pub record Print (l : Listing) (input : List ℕ) : Type 0 where
+  pub text : List ℕ
+  pub prints : Prints l input text
+
+-- so every input is printed: there are calls from a fresh listing up to its end
+abbrev pub Printed : Type 0
+Printed = (input : List ℕ) (l : Listing) → T (areBytes input) → IsFresh l → Print l input
+
 -- after a refusal the listing and the lent buffer are as they were, and nothing is used or written
 abbrev pub Kept : Type 0
 Kept =

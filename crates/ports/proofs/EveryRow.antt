@@ -59,9 +59,10 @@ pub record RowFacts (seat : Seat) : Type 1 where
   pub puts-own : (ports : Ports) → rowOf seat .put ports (rowOf seat .get ports) ≡ ports
   pub puts-again : (ports : Ports) (s t : rowOf seat .family .State) → rowOf seat .put (rowOf seat .put ports s) t ≡ rowOf seat .put ports t
   pub others : (other : Seat) (ports : Ports) (s : rowOf seat .family .State) → (seat ≡ other → ⊥) → rowOf other .get (rowOf seat .put ports s) ≡ rowOf other .get ports
-  -- the family's facts speak of the machine of its row, and its promise fixes its result
+  -- the family's facts speak of the machine of its row and of its range, and its promise fixes its result
   pub facts : Facts (rowOf seat .family)
   pub machine : facts .next ≡ rowOf seat .next
+  pub ranges : facts .inRange ≡ rowOf seat .inRange
   pub fresh-in-range : rowOf seat .inRange (rowOf seat .family .fresh) ≡ true
   pub one : (s : rowOf seat .family .State) (piece lent a b : List ℕ) (u v : rowOf seat .family .Result)
       → rowOf seat .family .Steps s piece lent u a → rowOf seat .family .Steps s piece lent v b → (u ≡ v) × (a ≡ b)
@@ -99,6 +100,7 @@ comlynx-row = record {
   others = each-seat _ (λ ports s n. absurd (n refl)) (λ ports s n. refl) (λ ports s n. refl);
   facts = ComlynxFacts.facts;
   machine = ComlynxFacts.machine;
+  ranges = ComlynxFacts.ranges;
   fresh-in-range = refl;
   one = ComlynxOne.step-one;
   reader = λ r later. refl;
@@ -134,6 +136,7 @@ eversolar-row = record {
   others = each-seat _ (λ ports s n. refl) (λ ports s n. absurd (n refl)) (λ ports s n. refl);
   facts = EversolarFacts.facts;
   machine = EversolarFacts.machine;
+  ranges = EversolarFacts.ranges;
   fresh-in-range = refl;
   one = EversolarOne.step-one;
   reader = λ r later. refl;
@@ -169,6 +172,7 @@ fronius-row = record {
   others = each-seat _ (λ ports s n. refl) (λ ports s n. refl) (λ ports s n. absurd (n refl));
   facts = FroniusFacts.facts;
   machine = FroniusFacts.machine;
+  ranges = FroniusFacts.ranges;
   fresh-in-range = refl;
   one = FroniusOne.step-one;
   reader = λ r later. refl;
