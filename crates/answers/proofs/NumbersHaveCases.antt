@@ -83,21 +83,6 @@ damages = record {
   number = has-name Damage.number WrongSum allDamages;
 }
 
--- the damages' numbers are 2 to 7, and each leads to its case
-pub damage-told : (n : ℕ) → 2 ≤ n → n ≤ 7 → Damage.number (damages .back n) ≡ n
-damage-told n low high = damages .number n (listed n low high)
-  where
-    listed : (n : ℕ) → 2 ≤ n → n ≤ 7 → 0 < times n (2 ∷ 3 ∷ 4 ∷ 5 ∷ 6 ∷ 7 ∷ [])
-    listed zero low high = absurd (omega arith)
-    listed (suc zero) low high = absurd (omega arith)
-    listed (suc (suc zero)) low high = omega arith
-    listed (suc (suc (suc zero))) low high = omega arith
-    listed (suc (suc (suc (suc zero)))) low high = omega arith
-    listed (suc (suc (suc (suc (suc zero))))) low high = omega arith
-    listed (suc (suc (suc (suc (suc (suc zero)))))) low high = omega arith
-    listed (suc (suc (suc (suc (suc (suc (suc zero))))))) low high = omega arith
-    listed (suc (suc (suc (suc (suc (suc (suc (suc n)))))))) low high = absurd (omega arith)
-
 -- told alike is one: by the way back
 pub refusal-alike : (a b : Refusal) → Refusal.number a ≡ Refusal.number b → a ≡ b
 refusal-alike = alike-by-back Refusal.number (refusals .back) (refusals .case)

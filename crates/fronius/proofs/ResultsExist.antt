@@ -9,7 +9,7 @@ use lib.ListN.{length, take}
 use lib.Dec.{T, eqb}
 use lib.Pow.{areBytes}
 use native.Mathlib.Omega.{arith}
-use Rattle.answers.proofs.NumbersHaveCases.{damages, damage-told}
+use Rattle.answers.proofs.NumbersHaveCases.{damages}
 use Rattle.stream.specs.Event.{Event, message, damage, outcome}
 use Rattle.stream.specs.Pieces.{Called, scan}
 use Rattle.stream.specs.Call.{lentLeast, answered, delivered, retells}
@@ -68,7 +68,7 @@ shows t n none k = refl
 shows t n (some (message m)) k = refl
 shows t n (some (damage d)) k =
     subst (λ (v : ℕ). shown (resultOf (record { state = t; event = some (damage d); used = n })) ≡ retells header (answered (record { state = t; event = some (damage v); used = n })))
-    (damage-told d (k .0) (k .1)) refl
+    (damages .number d (k .0) (k .1)) refl
 
 pub results : (s : Reader) (piece lent : List ℕ) → inRange s ≡ true → T (areBytes piece) → lentLeast ≤ length lent → HasResult fronius s piece lent
 results s piece lent i g h =
