@@ -1,6 +1,7 @@
--- What is demanded of every family, as one record: a family's own demands are that record at that family. Before them three laws that need none.
+-- What is demanded of every family, as one record: a family's own demands are that record at that family. Before them four laws that need none.
 use Prim.Native.Nat.{ℕ, suc, _≤_, _<_}
 use mathlib.Core.Path.{_≡_}
+use mathlib.Core.Bool.{Bool}
 use mathlib.Core.Option.{none, some}
 use mathlib.Core.List.{List, [], _∷_, _++_, map, flatten}
 use lib.ListN.{length, take}
@@ -8,7 +9,7 @@ use lib.Dec.{T}
 use lib.Pow.{areBytes}
 use Rattle.stream.specs.Event.{Event, message, damage, Told, done, gives, refuses}
 use Rattle.stream.specs.Pieces.{Moved, calls, feed}
-use Rattle.stream.specs.Call.{lentLeast}
+use Rattle.stream.specs.Call.{Seen, lentLeast, Steps, whole}
 use Rattle.stream.specs.Written.{written, ended, Each}
 use Rattle.stream.specs.Rule.{Settled, readings}
 use Rattle.stream.specs.Family.{Family, Call, sees, Allowed, used, toldFrom, Serves}
@@ -29,6 +30,17 @@ module _ (F : Family) where
   abbrev pub InPieces : Type 0
   InPieces =
       (s : F .State) (ps : List (List ℕ)) (cs : List (Call (F .Result))) → Serves F s ps cs → Allowed F s cs × (used F cs ≡ flatten ps)
+
+module _ {S M : Type 0} (next : S → ℕ → Moved S (Event M)) where
+  -- of a state that holds bytes, `full` of them, and a call to which a host lends these bytes. Where all of them are there, the promise of `step` allows
+  -- the call too, and all of them are there afterwards: so all that is demanded of `step` holds of a host that lends the held bytes.
+  -- More of them, or fewer, are refused with 18, and everything is as it was
+  abbrev pub InPlace : Type 1
+  InPlace =
+      (H R : Type 0) (inRange : S → Bool) (held : S → List ℕ) (full : ℕ) (header : M → H) (payload : M → List ℕ) (shown : R → Seen S H)
+      → (s : S) (piece lent later : List ℕ) (r : R) → Steps next (whole held full inRange) header payload shown s piece lent r later
+      → (length (held s) ≡ full → Steps next inRange header payload shown s piece lent r later × (length (held (shown r .state)) ≡ full))
+      × ((length (held s) ≡ full → ⊥) → (shown r .told ≡ refuses 18) × (shown r .state ≡ s) × (shown r .used ≡ 0) × (later ≡ lent))
 
 -- ---- the demands, of any family
 
