@@ -6,6 +6,7 @@ import frames
 # our program and the C one beside it
 PAIRS = {
     "reading": ("pace_reading", "plain.c"),
+    "in_place": ("pace_in_place", "plain.c"),
     "writing": ("pace_writing", "writers.c"),
     "giving": ("pace_giving", "roster.c"),
     "listing": ("sbrlist", "listing.c"),
@@ -25,6 +26,18 @@ READING = {
     ("fronius", 0): (3.5, 1.6, 1.6, 1.6),
     ("fronius", 66): (3.8, 0.9, 1.0, 0.4),
     ("fronius", 127): (3.8, 0.9, 1.0, 0.3),
+}
+# by `step_in_place`: no limit is asked for but that of reading by `step`
+IN_PLACE = {
+    ("comlynx", 10): (2.0, 1.1, 1.0, 0.9),
+    ("comlynx", 66): (2.0, 1.0, 1.0, 0.6),
+    ("comlynx", 255): (2.0, 0.9, 1.0, 0.4),
+    ("eversolar", 0): (2.0, 1.2, 1.0, 1.0),
+    ("eversolar", 66): (2.0, 0.7, 1.0, 0.4),
+    ("eversolar", 255): (2.0, 0.6, 1.0, 0.2),
+    ("fronius", 0): (2.0, 1.2, 1.0, 1.0),
+    ("fronius", 66): (2.0, 0.8, 1.0, 0.4),
+    ("fronius", 127): (2.0, 0.7, 1.0, 0.3),
 }
 WRITING = {
     ("comlynx", 10): 0.9,
@@ -68,13 +81,21 @@ def word(n):
     return (n % 65536).to_bytes(2, "big")
 
 
-def reading():
-    for (family, data), limits in READING.items():
+def read_by(part, table):
+    for (family, data), limits in table.items():
         for piece, limit in zip(PIECES, limits):
             # a byte that begins no frame; with no byte at all less is read
             head = bytes([frames.FAMILIES[family][0]]) + word(piece)
             text, messages, line = frames.stream(family, data, max(piece, 8192))
-            yield Row("reading", (NAMES[family], data, piece), "reading", head + b"\0", head + text, len(text) - 1, limit, line, messages)
+            yield Row(part, (NAMES[family], data, piece), part, head + b"\0", head + text, len(text) - 1, limit, line, messages)
+
+
+def reading():
+    return read_by("reading", READING)
+
+
+def in_place():
+    return read_by("in_place", IN_PLACE)
 
 
 def writing_input(what, times, data, room=600):
@@ -126,7 +147,7 @@ def listing():
 
 
 def rows():
-    for part in (reading, writing, checksum, giving, listing):
+    for part in (reading, in_place, writing, checksum, giving, listing):
         yield from part()
 
 
@@ -137,7 +158,8 @@ def alike():
             text = frames.spoilt(frames.stream(family, data, frames.MOST)[0], every)
             for piece in (1, 16, 240, 65536):
                 what = f"{NAMES[family]} with {data} data bytes, one in {every} changed, in pieces of {piece}"
-                yield "reading", what, bytes([number]) + word(piece) + text, True
+                for pair in ("reading", "in_place"):
+                    yield pair, what, bytes([number]) + word(piece) + text, True
         for count in (0, 1, most, most + 1):
             for data in (some_data(count), bytes(frames.SPECIAL[k % 3] for k in range(count))):
                 for room in (0, 7, count + 8, count + 11, count + 12, 2 * count + 12, 600):

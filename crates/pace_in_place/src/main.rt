@@ -1,0 +1,241 @@
+// Paces the readers for the bench as `pace_reading` does, for a host that keeps the held bytes where they are and lends them to each call
+// (`step_in_place`). It is a program of its own: with two callers in one the compiler would not put the step where it is called.
+use libc::STDIN_FILENO;
+use libc::STDOUT_FILENO;
+use numbers::least;
+use numbers::wide;
+use test_parts::COMLYNX;
+use test_parts::EVERSOLAR;
+use test_parts::FRONIUS;
+use test_parts::word_at;
+ghost use Prim.Native.Nat.{_≤_};
+ghost use lib.ListN.{length};
+
+// Where the input has the family and how long a piece is. The frames stand behind them.
+const FAMILY: usize = 0;
+
+const PIECE: usize = 1;
+
+const FRAMES: usize = 3;
+
+// How long a piece is that is said to have no byte.
+const WHOLE: usize = 65536;
+
+// What the readers are lent: at least 255 bytes, and here as many as leave the stack aligned. By where a state stands, the C library copies it in
+// 53 or in 59 instructions (docs/PERFORMANCE.md).
+const LENT: usize = 272;
+
+struct Tally {
+    messages: u64,
+    damages: u64,
+    check: u64,
+}
+
+// Where the piece ends that `at` lies in, the last one having ended at `end`.
+fn piece_end(at: usize, end: usize, piece: usize, len: usize) -> usize
+    requires { ⌜ (at ≤ len) × (at ≤ end) × (end ≤ len) ⌝ }
+    ensures { λ r. ⌜ (at ≤ r) × (r ≤ len) ⌝ }
+{
+    if at < end {
+        end
+    } else {
+        if piece < len - at { at + piece } else { len }
+    }
+}
+
+// The first `n` bytes added up.
+fn total_of(s: &[u8], n: usize) -> u64
+    requires { ⌜ n ≤ length (now s) ⌝ }
+{
+    let mut sum: u64 = 0;
+    let mut i: usize = 0;
+    while i < n {
+        sum = std::num::wrapping_add_u64(sum, wide(s[i]) as u64);
+        i += 1;
+    }
+    sum
+}
+
+// The sum of two numbers, modulo 2 to the 64.
+fn plus(a: u64, b: u64) -> u64 {
+    std::num::wrapping_add_u64(a, b)
+}
+
+// What is counted before the first call.
+fn none() -> Tally {
+    Tally {
+        messages: 0,
+        damages: 0,
+        check: 0,
+    }
+}
+
+// One message more, by its code byte and its length. Its number in the stream, its code and its data all count in the check number.
+fn one_more(t: Tally, code: u8, len: usize, lent: &[u8]) -> Tally {
+    let told = plus(code as u64, total_of(lent, least(len, lent.len())));
+    Tally {
+        messages: plus(t.messages, 1),
+        damages: t.damages,
+        check: plus(plus(t.check, plus(t.check, t.check)), told),
+    }
+}
+
+// One damage more.
+fn one_worse(t: Tally) -> Tally {
+    Tally {
+        messages: t.messages,
+        damages: plus(t.damages, 1),
+        check: t.check,
+    }
+}
+
+// Two functions a family, the same but for its reader and its code byte: what an answer adds, and the loop over the pieces. A call that uses
+// nothing is a refusal.
+fn comlynx_told(t: Tally, answer: comlynx::Answer, lent: &[u8]) -> Tally {
+    match answer {
+        comlynx::Answer::Done => t,
+        comlynx::Answer::Message(h) => one_more(t, h.kind, h.len, lent),
+        comlynx::Answer::Damaged(_) => one_worse(t),
+        comlynx::Answer::Refused(_) => t,
+    }
+}
+
+fn of_comlynx(input: &[u8], piece: usize, lent: &mut [u8]) -> Tally {
+    let reader = comlynx::Reader::fresh();
+    let mut held = reader.held;
+    let answer = comlynx::Answer::Done;
+    let mut s = comlynx::StepInPlace {
+        stage: reader.stage,
+        count: reader.count,
+        answer,
+        used: 0,
+    };
+    let mut t = none();
+    let mut at: usize = 0;
+    let mut end: usize = 0;
+    while at < input.len() {
+        end = piece_end(at, end, piece, input.len());
+        s = comlynx::step_in_place(s.stage, s.count, &mut held, &input[at..end], lent);
+        if s.used == 0 {
+            break;
+        }
+        at += s.used;
+        let answer = s.answer;
+        t = comlynx_told(t, answer, &*lent);
+    }
+    t
+}
+
+fn eversolar_told(t: Tally, answer: eversolar::Answer, lent: &[u8]) -> Tally {
+    match answer {
+        eversolar::Answer::Done => t,
+        eversolar::Answer::Message(h) => one_more(t, h.function, h.len, lent),
+        eversolar::Answer::Damaged(_) => one_worse(t),
+        eversolar::Answer::Refused(_) => t,
+    }
+}
+
+fn of_eversolar(input: &[u8], piece: usize, lent: &mut [u8]) -> Tally {
+    let reader = eversolar::Reader::fresh();
+    let mut held = reader.held;
+    let answer = eversolar::Answer::Done;
+    let mut s = eversolar::StepInPlace {
+        stage: reader.stage,
+        count: reader.count,
+        len: reader.len,
+        answer,
+        used: 0,
+    };
+    let mut t = none();
+    let mut at: usize = 0;
+    let mut end: usize = 0;
+    while at < input.len() {
+        end = piece_end(at, end, piece, input.len());
+        s = eversolar::step_in_place(s.stage, s.count, s.len, &mut held, &input[at..end], lent);
+        if s.used == 0 {
+            break;
+        }
+        at += s.used;
+        let answer = s.answer;
+        t = eversolar_told(t, answer, &*lent);
+    }
+    t
+}
+
+fn fronius_told(t: Tally, answer: fronius::Answer, lent: &[u8]) -> Tally {
+    match answer {
+        fronius::Answer::Done => t,
+        fronius::Answer::Message(h) => one_more(t, h.command, h.len, lent),
+        fronius::Answer::Damaged(_) => one_worse(t),
+        fronius::Answer::Refused(_) => t,
+    }
+}
+
+fn of_fronius(input: &[u8], piece: usize, lent: &mut [u8]) -> Tally {
+    let reader = fronius::Reader::fresh();
+    let mut held = reader.held;
+    let answer = fronius::Answer::Done;
+    let mut s = fronius::StepInPlace {
+        stage: reader.stage,
+        count: reader.count,
+        len: reader.len,
+        answer,
+        used: 0,
+    };
+    let mut t = none();
+    let mut at: usize = 0;
+    let mut end: usize = 0;
+    while at < input.len() {
+        end = piece_end(at, end, piece, input.len());
+        s = fronius::step_in_place(s.stage, s.count, s.len, &mut held, &input[at..end], lent);
+        if s.used == 0 {
+            break;
+        }
+        at += s.used;
+        let answer = s.answer;
+        t = fronius_told(t, answer, &*lent);
+    }
+    t
+}
+
+// The family is chosen once, outside the loop.
+fn tally_of(family: u8, input: &[u8], piece: usize, lent: &mut [u8]) -> Tally {
+    if family == COMLYNX {
+        return of_comlynx(input, piece, lent);
+    }
+    if family == EVERSOLAR {
+        return of_eversolar(input, piece, lent);
+    }
+    if family == FRONIUS {
+        return of_fronius(input, piece, lent);
+    }
+    none()
+}
+
+// How long a piece is, by what the input says.
+fn piece_of(said: u16) -> usize {
+    if said == 0 { WHOLE } else { said as usize }
+}
+
+fn print(n: u64, after: &[u8]) {
+    io::print_decimal(STDOUT_FILENO, n);
+    io::write_all(STDOUT_FILENO, after);
+}
+
+fn show(family: u8, piece: usize, input: &[u8]) {
+    let mut lent = [0u8; LENT];
+    let tally = tally_of(family, input, piece, &mut lent);
+    print(family as u64, b" ");
+    print(tally.messages, b" ");
+    print(tally.damages, b" ");
+    print(tally.check, b"\n");
+}
+
+fn main() {
+    let mut input = io::large_buffer();
+    let mut first = [0u8; FRAMES];
+    io::read_full(STDIN_FILENO, &mut first);
+    let n = io::read_full(STDIN_FILENO, &mut input);
+    let piece = piece_of(word_at(&first, PIECE));
+    show(first[FAMILY], piece, &input[..n]);
+}
