@@ -2,7 +2,7 @@
 -- Assumes nothing.
 use Prim.Native.Nat.{ℕ, _+_, _*_, _-_, _≤_, _<_}
 use mathlib.Core.Path.{_≡_, refl, sym, ap, _∙_}
-use mathlib.Core.Bool.{Bool, true, false, _||_}
+use mathlib.Core.Bool.{Bool, true, false}
 use mathlib.Core.List.{List, _++_}
 use lib.ListN.{length, drop}
 use lib.Dec.{eqb}
@@ -17,21 +17,7 @@ use Rattle.listing_text.specs.Lines.{titleLine, IsTitle}
 use Rattle.uplink.specs.Packet.{leadLength, pieceMax}
 use Rattle.listing.specs.Steps.{packetsMax, roomLeast}
 use Rattle.listing.specs.Inside.{Put}
-use Rattle.listing.specs.declared.Heard.{Heard}
-use Rattle.listing.specs.declared.Heard.the-variants.{More, Packet as Took, End, Refused}
-use Rattle.sbrlist.specs.Run.{isTaken, Counts}
-
--- ---- tests
-
-pub neither : (t u : Bool) → (t || u) ≡ false → (t ≡ false) × (u ≡ false)
-neither true u e = zero-is-one cc
-neither false u e = (refl, e)
-
-pub is-taken : (h : Heard) → isTaken h ≡ true → h ≡ Took
-is-taken More e = zero-is-one cc
-is-taken Took e = refl
-is-taken End e = zero-is-one cc
-is-taken (Refused why) e = zero-is-one cc
+use Rattle.sbrlist.specs.Run.{Counts}
 
 -- ---- the header
 

@@ -11,8 +11,7 @@ use Rattle.listing.specs.Steps.{IsFresh, packetsMax}
 use Rattle.listing.specs.Inside.{Put}
 use Rattle.listing.specs.declared.Listing.{Listing}
 use Rattle.listing.specs.declared.Listed.{Listed}
-use Rattle.listing.specs.declared.Heard.{Heard}
-use Rattle.listing.specs.declared.Heard.the-variants.{More, Packet as Took, End, Refused}
+use Rattle.listing.specs.declared.Heard.the-variants.{More, Packet as Took, End}
 use Rattle.listing_whole.specs.Demands.{Prints}
 use Rattle.sbrlist.specs.declared.Window.{Window}
 
@@ -42,13 +41,6 @@ pub record IsReadOn (buffer : List ℕ) (from to : ℕ) (r : Window) (later : Li
 abbrev pub IsStarted : (lent : List ℕ) (n : ℕ) (later : List ℕ) → Type 0
 IsStarted lent n later = Put titleLine lent n later
 
--- `took`: a packet was taken
-abbrev pub isTaken : Heard → Bool
-isTaken More = false
-isTaken Took = true
-isTaken End = false
-isTaken (Refused why) = false
-
 -- what may follow of the input: nothing, once it has ended
 abbrev pub Follows : (ended : Bool) → List ℕ → Type 0
 Follows ended rest = ended ≡ true → rest ≡ []
@@ -57,7 +49,7 @@ Follows ended rest = ended ≡ true → rest ≡ []
 abbrev pub Counts : (before after used : ℕ) → Type 0
 Counts before after used = (before ≤ after) × (after ≡ before → used ≡ 0) × (before < after → after ≤ packetsMax)
 
--- `fill`, of the listing, what is at hand of the input, whether that is all, the lent buffer, the result and the buffer afterwards: a text stands at the
+-- `fill`, of the listing to go on from, what is at hand of the input, whether that is all, the lent buffer, the result and the buffer afterwards: a text stands at the
 -- front, and behind it all is as it was. Whatever a host prints of what is left of the input, it prints behind this text of all of it; and where the
 -- listing has ended, this text is all
 pub record IsFilled (l : Listing) (input : List ℕ) (ended : Bool) (lent : List ℕ) (r : Listed) (later : List ℕ) : Type 0 where

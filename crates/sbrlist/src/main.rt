@@ -10,7 +10,7 @@ ghost use mathlib.Core.Path.{_≡_};
 ghost use mathlib.Core.Bool.{true};
 ghost use lib.ListN.{length, take};
 ghost use Rattle.listing.specs.Steps.{roomLeast};
-ghost use Rattle.sbrlist.specs.Run.{movedFront, IsReadOn, IsStarted, isTaken, IsFilled, Handed, Printed};
+ghost use Rattle.sbrlist.specs.Run.{movedFront, IsReadOn, IsStarted, IsFilled, Handed, Printed};
 
 // What one buffer holds.
 const BUFFER: usize = 65536;
@@ -108,24 +108,11 @@ fn none_taken(listing: Listing) -> Listed
     }
 }
 
-// Whether a packet was taken.
-fn took(heard: Heard) -> bool
-    ensures { λ r. ⌜ r ≡ isTaken heard ⌝ }
-{
-    match heard {
-        Heard::Packet => true,
-        Heard::More => false,
-        Heard::End => false,
-        Heard::Refused(_) => false,
-    }
-}
-
-// Packet by packet, as far as what is at hand of the input and the room for lines go.
-fn fill(listing: Listing, input: &[u8], ended: bool, out: &mut [u8]) -> Listed
+// Packet by packet, going on from a call, as far as what is at hand of the input and the room for lines go.
+fn fill(mut s: Listed, input: &[u8], ended: bool, out: &mut [u8]) -> Listed
     requires { ⌜ roomLeast ≤ length (now out) ⌝ }
-    ensures { λ r. ⌜ IsFilled listing (now (input .entry)) ended (now (out .entry)) r (now (out .exit)) ⌝ }
+    ensures { λ r. ⌜ IsFilled (s .listing) (now (input .entry)) ended (now (out .entry)) r (now (out .exit)) ⌝ }
 {
-    let mut s = none_taken(listing);
     let mut used: usize = 0;
     let mut at: usize = 0;
     loop {
@@ -133,7 +120,13 @@ fn fill(listing: Listing, input: &[u8], ended: bool, out: &mut [u8]) -> Listed
         used += s.used;
         at += s.wrote;
         let heard = s.heard;
-        if !took(heard) | (out.len() - at < listing::ROOM) {
+        match heard {
+            Heard::Packet => {}
+            Heard::More => break,
+            Heard::End => break,
+            Heard::Refused(_) => break,
+        }
+        if out.len() - at < listing::ROOM {
             break;
         }
     }
@@ -157,7 +150,7 @@ fn list(input: &mut [u8], out: &mut [u8]) -> bool
     let mut to: usize = 0;
     let mut ended = false;
     loop {
-        s = fill(s.listing, &input[from..to], ended, out);
+        s = fill(s, &input[from..to], ended, out);
         from += s.used;
         let at = s.wrote;
         if !flush(out, at) {

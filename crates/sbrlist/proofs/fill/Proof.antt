@@ -14,20 +14,19 @@ use Rattle.sbrlist.specs.Run.{Counts, IsFilled}
 use Rattle.sbrlist.proofs.CallsGoOn.{wrote-fits, Going, begins, going-then, known-then, filled-then, filled, out-then}
 use Rattle.numbers.proofs.Alike.{zero-is-one}
 use Rattle.listing_whole.proofs.Demands.{gets-on}
-use Rattle.sbrlist.proofs.ProgramEnds.{neither, is-taken}
-use borrow.Author.Tests.{not-false, ltb-false}
+use borrow.Author.Tests.{ltb-false}
 use borrow.Rule.Slice.PartMut.{same-len-mid}
 use borrow.Author.Needs.{needs}
 use Rattle.sbrlist.proofs.fill.Statement.{statement}
 use Rattle.sbrlist.proofs.fill.Tie as tie
 
 abbrev Inv-loop : tie.InvT-loop
-Inv-loop input ended out₀ s₀ used₀ at₀ out s used at =
+Inv-loop s₀ input ended out₀ used₀ at₀ s out used at =
     (used ≤ length input) × (at + roomLeast ≤ length out) × (length out ≡ length out₀)
     × Counts (s₀ .listing .packets) (s .listing .packets) used × Going (s₀ .listing) input ended out₀ (s .listing) used at out
 
 abbrev μ-loop : tie.MeasureT-loop
-μ-loop input ended out₀ s₀ used₀ at₀ out s used at = packetsMax - s .listing .packets
+μ-loop s₀ input ended out₀ used₀ at₀ s out used at = packetsMax - s .listing .packets
 
 -- ---- a turn, and what is known of its call
 
@@ -35,11 +34,11 @@ abbrev turn : tie.After-step Inv-loop μ-loop → tie.At-loop Inv-loop μ-loop
 turn c = c .before .before .before
 
 abbrev starts : tie.At-loop Inv-loop μ-loop → tie.Start Inv-loop μ-loop
-starts l = l .before .before .before .before
+starts l = l .before .before .before
 
 module _ (c : tie.After-step Inv-loop μ-loop) where
   abbrev l₀ : Listing
-  l₀ = turn c .before .none-taken .result .listing
+  l₀ = starts (turn c) .args .s .listing
 
   abbrev l : Listing
   l = turn c .loop .s .listing
@@ -97,21 +96,12 @@ module _ (c : tie.After-step Inv-loop μ-loop) where
       let g = gets-on l (take (length input - used) (drop used input)) (take (length out - at) (drop at out)) later ended after stepped .1 e in
       (g .2, g .3)
 
+  ended-up : IsFilled l₀ input ended lent filledOf outOf
+  ended-up = filled-then l₀ input ended lent l used at out going after later stepped (turn c .loop .inv .0) (turn c .loop .inv .3)
+
 -- the call that a place behind it stands behind
 abbrev back : tie.After-struct-known Inv-loop μ-loop → tie.After-step Inv-loop μ-loop
 back c = c .before .before .before
-
--- where it goes on, a packet was taken and there is room for the lines of another
-taken : (c : tie.Else1 Inv-loop μ-loop) → after (back (c .before .before .before)) .heard ≡ Took
-taken c = is-taken _ (sym (c .before .took .ensures) ∙ not-false _ (neither _ _ (c .if1 .left) .0))
-
-room : (c : tie.Else1 Inv-loop μ-loop) → let k = back (c .before .before .before) in at k + after k .wrote + roomLeast ≤ length (out k)
-room c =
-    let k = back (c .before .before .before) in
-    omega (arith, wrote k, same-out k, ltb-false (length (outOf k) - (at k + after k .wrote)) roomLeast (neither (not (c .before .took .result)) _ (c .if1 .left) .1))
-
-none-taken-requires : tie.Need-none-taken-requires Inv-loop μ-loop
-none-taken-requires c κs = search needs
 
 loop-holds : tie.Need-loop-holds Inv-loop μ-loop
 loop-holds c = (omega arith, omega arith, refl, (omega arith, (λ e. refl), λ h. omega arith), begins _ _ _ _)
@@ -138,37 +128,66 @@ step-requires : tie.Need-step-requires Inv-loop μ-loop
 step-requires c κs = search needs
 
 add-used : tie.Need-add-used Inv-loop μ-loop
-add-used c = let k = back c in omega (arith, known k .0, starts (turn k) .good .1 .0)
+add-used c = let k = back c in omega (arith, known k .0, starts (turn k) .good)
 
 add-at : tie.Need-add-at Inv-loop μ-loop
 add-at c = let k = back (c .before) in omega (arith, wrote k, turn k .loop .inv .2, starts (turn k) .good)
 
-took-requires : tie.Need-took-requires Inv-loop μ-loop
-took-requires c κs = search needs
+enum-told : tie.Need-enum-told Inv-loop μ-loop
+enum-told c = search needs
+
+enum-told-2 : tie.Need-enum-told-2 Inv-loop μ-loop
+enum-told-2 c = search needs
+
+enum-told-3 : tie.Need-enum-told-3 Inv-loop μ-loop
+enum-told-3 c = search needs
+
+enum-told-4 : tie.Need-enum-told-4 Inv-loop μ-loop
+enum-told-4 c = search needs
 
 sub-if1 : tie.Need-sub-if1 Inv-loop μ-loop
-sub-if1 c = let k = back (c .before .before) in omega (arith, wrote k, same-out k)
+sub-if1 c = let k = back (c .before .before .before) in omega (arith, wrote k, same-out k)
 
 loop-less : tie.Need-loop-less Inv-loop μ-loop
 loop-less c =
-    let k = back (c .before .before .before) in
-    let g = took k (taken c) in
+    let k = back (c .before .before .before .before) in
+    let g = took k (c .before .enum-told .given .1) in
     omega (arith, g .0, g .1)
 
 loop-again : tie.Need-loop-again Inv-loop μ-loop
 loop-again c =
-    let k = back (c .before .before .before) in
-    let i = turn k .loop .inv in
-    (known k .0, omega (arith, same-out k, room c), same-out k ∙ i .2, known k .1, going-then (l₀ k) (input k) (ended k) (lent k) (l k) (used k) (at k) (out k) (going k) (after k) (later k) (stepped k) (λ e. zero-is-one (let t = taken c in cc)))
+    let k = back (c .before .before .before .before) in
+    let i = turn k .loop .inv in (
+      known k .0,
+      omega (arith, same-out k, wrote k),
+      same-out k ∙ i .2,
+      known k .1,
+      going-then (l₀ k) (input k) (ended k) (lent k) (l k) (used k) (at k) (out k) (going k) (after k) (later k) (stepped k) (λ e. zero-is-one (let t = c .before .enum-told .given .1 in cc)),
+    )
 
 same-length : tie.Need-same-length Inv-loop μ-loop
-same-length c = search needs
+same-length c = let k = back (c .before .before .before) in same-out k ∙ turn k .loop .inv .2
 
 returns : tie.Need-returns Inv-loop μ-loop
-returns c =
-    let k = back (c .before .before .before) in
-    let f = filled-then (l₀ k) (input k) (ended k) (lent k) (l k) (used k) (at k) (out k) (going k) (after k) (later k) (stepped k) (turn k .loop .inv .0) (turn k .loop .inv .3) in
-    subst (λ (v : Listing). IsFilled v (input k) (ended k) (lent k) (filledOf k) (outOf k)) (turn k .before .none-taken .ensures) f
+returns c = ended-up (back (c .before .before .before))
+
+same-length-2 : tie.Need-same-length-2 Inv-loop μ-loop
+same-length-2 c = let k = back (c .before .before .before) in same-out k ∙ turn k .loop .inv .2
+
+returns-2 : tie.Need-returns-2 Inv-loop μ-loop
+returns-2 c = ended-up (back (c .before .before .before))
+
+same-length-3 : tie.Need-same-length-3 Inv-loop μ-loop
+same-length-3 c = let k = back (c .before .before .before) in same-out k ∙ turn k .loop .inv .2
+
+returns-3 : tie.Need-returns-3 Inv-loop μ-loop
+returns-3 c = ended-up (back (c .before .before .before))
+
+same-length-4 : tie.Need-same-length-4 Inv-loop μ-loop
+same-length-4 c = let k = back (c .before .before .before .before) in same-out k ∙ turn k .loop .inv .2
+
+returns-4 : tie.Need-returns-4 Inv-loop μ-loop
+returns-4 c = ended-up (back (c .before .before .before .before))
 
 pub fill-spec : {M : Type 1} → statement M
 fill-spec =
@@ -176,7 +195,6 @@ fill-spec =
     (tie.spec
     Inv-loop
     μ-loop
-    none-taken-requires
     loop-holds
     sub-step
     part-step-start
@@ -187,9 +205,18 @@ fill-spec =
     step-requires
     add-used
     add-at
-    took-requires
+    enum-told
+    enum-told-2
+    enum-told-3
+    enum-told-4
     sub-if1
     loop-less
     loop-again
     same-length
-    returns)
+    returns
+    same-length-2
+    returns-2
+    same-length-3
+    returns-3
+    same-length-4
+    returns-4)
