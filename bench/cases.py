@@ -56,7 +56,7 @@ DAYS = {  # ports, one line byte in how many is changed, packets, limit
     "clean": (frames.PORTS, 0, 512, 1.0),
     "clean, a quarter of it": (frames.PORTS, 0, 128, 1.0),
     "damaged": (frames.PORTS, 60, 512, 1.1),
-    "clean, ComLynx alone": ((1,), 0, 128, 0.7),
+    "clean, ComLynx alone": ((1,), 0, 128, 0.8),
     "clean, Eversolar alone": ((2,), 0, 128, 0.6),
     "clean, Fronius alone": ((3,), 0, 128, 1.8),
 }
