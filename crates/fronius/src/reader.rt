@@ -215,11 +215,13 @@ fn take_body(len: usize, held: &mut [u8], piece: &[u8]) -> usize
     requires { ⌜ (len ≤ payloadMax) × (4 ≤ length (now piece)) × (length (now held) ≡ heldMax) ⌝ }
     ensures { λ r. ⌜ Filled 0 len (now (held .entry)) (now (piece .entry)) 4 r (now (held .exit)) ⌝ }
 {
-    if (len == 0) & (HEADER <= piece.len()) {
-        held[0] = piece[4];
-        held[1] = piece[5];
-        held[2] = piece[6];
-        return HEADER;
+    if HEADER <= piece.len() {
+        if len == 0 {
+            held[0] = piece[4];
+            held[1] = piece[5];
+            held[2] = piece[6];
+            return HEADER;
+        }
     }
     fill(0, len, held, piece, UNHELD)
 }

@@ -1,39 +1,24 @@
 -- `reader::take_body`: each byte stored is one that the machine keeps; or what `fill` takes in.
 -- Assumes nothing.
-use Prim.Native.Nat.{_≤_}
-use lib.ListN.{length}
-use lib.Dec.{eqb, leb}
-use borrow.Author.Tests.{leb-true}
-use native.Mathlib.Omega.{arith}
-use Rattle.numbers.proofs.SameLists.{both}
 use Rattle.fronius.proofs.EnteredIsScanned.{header-filled}
 use borrow.Author.Needs.{needs}
 use Rattle.fronius.proofs.reader.take_body.Statement.{statement}
 use Rattle.fronius.proofs.reader.take_body.Tie as tie
 
-abbrev begun : tie.Then1 → tie.Start
-begun c = c .before .before .before
-
--- a header is there
-long : (c : tie.Then1) → 7 ≤ length (begun c .args .piece .now)
-long c =
-    let a = begun c .args in
-    leb-true 7 (length (a .piece .now)) (both (eqb (a .len) 0) (leb 7 (length (a .piece .now))) (c .if1 .taken) .1)
-
 shared-slice-read-held : tie.Need-shared-slice-read-held
-shared-slice-read-held c = omega (arith, long (c .before))
+shared-slice-read-held c = search needs
 
 slice-write-held : tie.Need-slice-write-held
 slice-write-held c = search needs
 
 shared-slice-read-held-2 : tie.Need-shared-slice-read-held-2
-shared-slice-read-held-2 c = omega (arith, long (c .before .before))
+shared-slice-read-held-2 c = search needs
 
 slice-write-held-2 : tie.Need-slice-write-held-2
 slice-write-held-2 c = search needs
 
 shared-slice-read-held-3 : tie.Need-shared-slice-read-held-3
-shared-slice-read-held-3 c = omega (arith, long (c .before .before .before))
+shared-slice-read-held-3 c = search needs
 
 slice-write-held-3 : tie.Need-slice-write-held-3
 slice-write-held-3 c = search needs
@@ -43,9 +28,9 @@ same-length c = search needs
 
 returns : tie.Need-returns
 returns c =
-    let t = c .before .before .before in
-    let a = begun t .args in
-    header-filled (a .len) (a .held .now) (a .piece .now) (long t)
+    let t = c .before .before .before .before in
+    let a = t .before .before .before .args in
+    header-filled (a .len) (a .held .now) (a .piece .now) (t .if1 .taken)
 
 fill-requires : tie.Need-fill-requires
 fill-requires c κs = search needs
