@@ -1,5 +1,6 @@
 //! Calls of `test_probe`: sweeps over every limit, and random ones.
 
+use crate::in_place_calls::{in_place_chain, in_place_sweep, random_in_place, too_many_held};
 use crate::listing_calls::{
     line_sweep, listing_chain, listing_sweep, longest_call, port_chain, port_sweep, random_line,
     random_listing, random_port, random_word, word_sweep,
@@ -128,7 +129,7 @@ pub fn state_of(shape: Shape, held: &[u8], stage: u8, count: u16, length: u16) -
     state
 }
 
-fn reader_call(shape: Shape, state: &[u8], piece: &[u8], lent: &[u8]) -> Making {
+pub fn reader_call(shape: Shape, state: &[u8], piece: &[u8], lent: &[u8]) -> Making {
     op(shape.op).raw(state).list(piece).list(lent)
 }
 
@@ -141,7 +142,7 @@ pub fn after(shape: Shape, call: &[u8]) -> (u8, usize, Vec<u8>) {
 }
 
 /// A stream in pieces, "each piece called on until it is used up".
-fn reader_chain(family: Family, random: &mut Random, calls: &mut Vec<Call>) {
+pub fn reader_chain(family: Family, random: &mut Random, calls: &mut Vec<Call>) {
     let shape = shape(family);
     let mut state = fresh_state(shape);
     let least = random.pick(&[30, 100, 400]);
@@ -873,21 +874,42 @@ fn random_packet(random: &mut Random) -> Call {
     packet_call(&packet)
 }
 
-fn checksum_sweep(calls: &mut Vec<Call>) {
+fn checksum_sweep(random: &mut Random, calls: &mut Vec<Call>) {
     for byte in 0..=255 {
         calls.push(op(0x71).list(&[byte]).from("checksum"));
         calls.push(op(0x73).w(u16::from(byte) * 257).from("checksum"));
     }
     calls.push(op(0x71).list(&[]).from("checksum"));
+    let covered = [0xFF, 0x03, 0x00, 0x02, 0x11, 0xFF, 0x00, 0x15];
+    for cut in 0..=covered.len() {
+        let (first, second) = covered.split_at(cut);
+        calls.push(op(0x75).list(first).list(second).from(TWO_LISTS));
+        calls.push(op(0x75).list(second).list(first).from(TWO_LISTS));
+    }
+    for first in LENGTHS_OF_TWO {
+        for second in LENGTHS_OF_TWO {
+            let (first, second) = (random.content(first), random.content(second));
+            calls.push(op(0x75).list(&first).list(&second).from(TWO_LISTS));
+        }
+    }
+    let longest = random.bytes(16_384);
+    calls.push(op(0x75).list(&longest).list(&longest).from(TWO_LISTS));
 }
+
+const TWO_LISTS: &str = "checksum over two lists";
+const LENGTHS_OF_TWO: [usize; 8] = [0, 1, 2, 3, 8, 255, 256, 1000];
 
 fn random_checksum(random: &mut Random) -> Call {
     let length = random.pick(&[0, 1, 2, 8, 100, 263, 1000]);
     let bytes = random.content(length);
-    let making = match random.below(4) {
+    let making = match random.below(5) {
         0 => op(0x71).list(&bytes),
         1 => op(0x72).w(random.word()).list(&bytes),
         2 => op(0x73).w(random.word()),
+        3 => {
+            let (first, second) = bytes.split_at(random.between(0, length));
+            op(0x75).list(first).list(second)
+        }
         _ => {
             let first = random.pick(&[0, 1, length as u16, length as u16 + 1, 65_535, 7, 50]);
             op(0x74).w(first).list(&bytes)
@@ -914,6 +936,7 @@ pub fn sweeps(random: &mut Random) -> Vec<Call> {
         reader_lent_lengths(family, random, &mut calls);
         writer_sweep(family, random, &mut calls);
     }
+    in_place_sweep(random, &mut calls);
     meaning_sweep(random, &mut calls);
     address_sweep(random, &mut calls);
     request_sweep(random, &mut calls);
@@ -922,7 +945,7 @@ pub fn sweeps(random: &mut Random) -> Vec<Call> {
     value_sweep(random, &mut calls);
     roster_sweep(random, &mut calls);
     packet_sweep(random, &mut calls);
-    checksum_sweep(&mut calls);
+    checksum_sweep(random, &mut calls);
     word_sweep(random, &mut calls);
     line_sweep(random, &mut calls);
     port_sweep(random, &mut calls);
@@ -935,8 +958,11 @@ pub fn random_calls(random: &mut Random, count: usize) -> Vec<Call> {
     let mut calls = Vec::new();
     while calls.len() < count {
         let family = random.pick(&FAMILIES);
-        match random.below(40) {
-            0 => reader_chain(family, random, &mut calls),
+        match random.below(42) {
+            0 => {
+                let chain = random.pick(&[reader_chain, reader_chain, in_place_chain]);
+                chain(family, random, &mut calls);
+            }
             1..=9 => calls.push(forged_call(family, random)),
             10..=13 => calls.push(random_writer(family, random)),
             14 => calls.push(random_meaning(random)),
@@ -960,21 +986,22 @@ pub fn random_calls(random: &mut Random, count: usize) -> Vec<Call> {
                 let chain = random.pick(&[port_chain, listing_chain]);
                 chain(random, &mut calls);
             }
+            37 | 38 => calls.push(random_in_place(family, random)),
             _ => calls.push(random_checksum(random)),
         }
     }
     calls
 }
 
-/// What ends a session: a call that is not all there, or an opcode that is not listed, and then
-/// calls that must get no answer.
+/// What ends a session: a call that is not all there, an opcode that is not listed, or more bytes
+/// than a list or a call may have, and then calls that must get no answer.
 pub fn broken_ending(random: &mut Random) -> Call {
     let mut ending = Vec::new();
-    match random.between(0, 3) {
+    match random.between(0, 4) {
         0 => {
             ending.push(random.pick(&[
-                0x00, 0x07, 0x10, 0x14, 0x24, 0x30, 0x38, 0x43, 0x50, 0x57, 0x63, 0x70, 0x75, 0x80,
-                0x8A, 0xFF,
+                0x00, 0x0A, 0x10, 0x14, 0x24, 0x30, 0x38, 0x43, 0x50, 0x57, 0x63, 0x70, 0x76, 0x80,
+                0x8D, 0xFF,
             ]));
             ending.extend(op(0x73).w(random.word()).bytes);
         }
@@ -984,6 +1011,10 @@ pub fn broken_ending(random: &mut Random) -> Call {
             ending.extend(op(0x73).w(random.word()).bytes);
         }
         2 => {
+            ending.extend(too_many_held(random).bytes);
+            ending.extend(op(0x73).w(random.word()).bytes);
+        }
+        3 => {
             ending.extend(longest_call(true, random).bytes);
             ending.extend(op(0x73).w(random.word()).bytes);
         }

@@ -33,6 +33,11 @@ pub fn over(bytes: &[u8]) -> u16 {
     going_on(START, bytes)
 }
 
+/// Over two lists, one after the other.
+pub fn over_both(first: &[u8], second: &[u8]) -> u16 {
+    over(&[first, second].concat())
+}
+
 /// "The complement is sent", "checksum low byte first".
 pub fn sent(state: u16) -> [u8; 2] {
     let complement = 0xFFFF - state;

@@ -188,8 +188,14 @@ pub fn fresh() -> State {
     State { held: vec![0; LONGEST_BODY], stage: BEFORE_A_FLAG, count: 0 }
 }
 
-/// The ranges: before a flag 0 held; in a stretch 0 to 266.
+/// A host that lends the held bytes may lend another number of them: the state is spoilt then,
+/// whatever its numbers are.
 fn in_range(state: &State) -> bool {
+    state.held.len() == LONGEST_BODY && numbers_in_range(state)
+}
+
+/// The ranges: before a flag 0 held; in a stretch 0 to 266.
+fn numbers_in_range(state: &State) -> bool {
     match state.stage {
         BEFORE_A_FLAG => state.count == 0,
         IN_A_STRETCH | AFTER_ITS_ESCAPE | WITH_A_BROKEN_PAIR => state.count <= OVERFULL,

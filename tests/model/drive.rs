@@ -2,6 +2,7 @@
 
 mod calls;
 mod fields;
+mod in_place_calls;
 mod known;
 mod listing_calls;
 mod programs;

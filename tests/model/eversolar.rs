@@ -128,9 +128,15 @@ pub fn fresh() -> State {
     State { held: vec![0; MOST_HELD], stage: LOOKING, count: 0, length: 0 }
 }
 
+/// A host that lends the held bytes may lend another number of them: the state is spoilt then,
+/// whatever its numbers are.
+fn in_range(state: &State) -> bool {
+    state.held.len() == MOST_HELD && numbers_in_range(state)
+}
+
 /// The ranges: looking or after an AA nothing; in the lead 0 to 6 of seven bytes; in the body
 /// a payload length of 0 to 255 and 7 to 8 plus that length held.
-fn in_range(state: &State) -> bool {
+fn numbers_in_range(state: &State) -> bool {
     match state.stage {
         LOOKING | AA_SEEN => state.count == 0 && state.length == 0,
         LEAD => state.count <= 6 && state.length == 0,

@@ -114,9 +114,15 @@ pub fn fresh() -> State {
     State { held: vec![0; MOST_HELD], stage: AT_THE_START, count: 0, length: 0 }
 }
 
+/// A host that lends the held bytes may lend another number of them: the state is spoilt then,
+/// whatever its numbers are.
+fn in_range(state: &State) -> bool {
+    state.held.len() == MOST_HELD && numbers_in_range(state)
+}
+
 /// The ranges: at the start 0 to 3 successive 80; in the body a payload length of 0 to 127 and
 /// 0 to 3 plus that length held.
-fn in_range(state: &State) -> bool {
+fn numbers_in_range(state: &State) -> bool {
     match state.stage {
         AT_THE_START => state.count <= 3 && state.length == 0,
         BODY => state.length <= 127 && state.count <= 3 + state.length,

@@ -25,12 +25,13 @@ fn known(name: &'static str, call: &str, result: &str) -> KnownCall {
 
 /// Calls whose results are known to the last byte.
 pub fn calls() -> Vec<KnownCall> {
-    [short_calls(), calls_of_req_03(), calls_of_l1()].concat()
+    [short_calls(), calls_of_req_03(), calls_of_l1(), calls_in_place()].concat()
 }
 
 fn short_calls() -> Vec<KnownCall> {
     vec![
         known("P1, state", "71 08 00 FF 03 00 02 11 FF 00 15", "00 86 6E"),
+        known("P1, state, two lists", "75 02 00 FF 03 06 00 00 02 11 FF 00 15", "00 86 6E"),
         known("P1, sent", "73 86 6E", "00 79 91"),
         known(
             "P1, frame",
@@ -156,6 +157,9 @@ fn calls_of_l1() -> Vec<KnownCall> {
     vec![
         line("L1, header", &[0x81], HEADER),
         line("L1, message", &[&[0x82, 1][..], &message, &list(&[])].concat(), LINE),
+        line("L1, message, fixed", &bytes("8A 01 00 02 11 FF 15 00 00"), LINE),
+        line("P3, message", &bytes("8B 02 01 00 00 00 10 00 00 00"), "2 1 0100 0000 1000 -\n"),
+        line("P5, message", &bytes("8C 03 01 01 10 03 00 04 D2 00"), "3 1 - 0101 10 04D200\n"),
         line("a damage", &[0x83, 3, 6], "3 6\n"),
         line("a stop", &[0x84, 13], "stop 13\n"),
         line("L1, end", &[&[0x85][..], &counts(1, 0)[..16]].concat(), END),
@@ -183,6 +187,65 @@ fn calls_of_l1() -> Vec<KnownCall> {
             name: "L1, its end",
             call: [vec![0x89], of_the_end, lent_with("", 8192)].concat(),
             result: [ended.to_vec(), after, counts(1, 1), lent_with(END, 8192)].concat(),
+        },
+    ]
+}
+
+/// A fresh reader in place is called once on a whole frame. Its host lends bytes of DD, which stay
+/// where nothing of the frame is held. `told` ends with the numbers of the state.
+fn read_in_place(
+    name: &'static str,
+    fresh: &str,
+    held: usize,
+    frame: &str,
+    told: &str,
+    held_later: &str,
+    payload: &str,
+) -> KnownCall {
+    let mut later = bytes(held_later);
+    later.resize(held, 0xDD);
+    let call = [bytes(fresh), list(&vec![0xDD; held]), list(&bytes(frame)), lent_with("", 255)];
+    let result = [bytes(told), list(&later), lent_with(bytes(payload), 255)];
+    KnownCall { name, call: call.concat(), result: result.concat() }
+}
+
+/// L1, P3 and P5 read in place; and L1 where a byte too few is lent to hold bytes in, which is 18
+/// even where too little is lent for the payload too.
+fn calls_in_place() -> Vec<KnownCall> {
+    let l1 = "7E FF 03 00 02 11 FF 00 15 79 91 7E";
+    let spoilt = [vec![0; 3], list(&[0xDD; 264])].concat();
+    vec![
+        read_in_place(
+            "L1, in place",
+            "07 00 00 00",
+            265,
+            l1,
+            "01 0C 00 02 00 FF 11 15 00 00 01 00 00",
+            "FF 03 00 02 11 FF 00 15 79 91",
+            "",
+        ),
+        read_in_place(
+            "P3, in place",
+            "08 00 00 00 00 00",
+            263,
+            P3,
+            "01 0B 00 01 00 00 00 10 00 00 00 00 00 00 00 00",
+            "01 00 00 00 10 00 00 01",
+            "",
+        ),
+        read_in_place(
+            "P5, in place",
+            "09 00 00 00 00 00",
+            130,
+            "80 80 80 03 01 01 10 04 D2 00 EB",
+            "01 0B 00 01 01 10 03 00 00 00 00 00 00",
+            "01 01 10 04 D2 00",
+            "04 D2 00",
+        ),
+        KnownCall {
+            name: "264 held bytes are spoilt",
+            call: [vec![0x07], spoilt.clone(), list(&bytes(l1)), lent_with("", 254)].concat(),
+            result: [vec![18], vec![0; 9], spoilt, lent_with("", 254)].concat(),
         },
     ]
 }

@@ -11,6 +11,7 @@ use right::{lines, number, packet, probe};
 // ---- lines ----
 
 const LINES: &str = "lines of the listing";
+const FIXED_LINES: &str = "lines of messages with fields of fixed lengths";
 const LINE_ROOMS: &str = "lines of the listing, every lent length";
 
 fn header_line() -> Making {
@@ -33,6 +34,19 @@ fn end_line(messages: u64, damages: u64) -> Making {
 fn message_line(port: u8, lengths: [usize; 4], random: &mut Random) -> (Making, usize) {
     let [from, to, code, payload] = lengths.map(|length| random.content(length));
     let making = op(0x82).b(port).list(&from).list(&to).list(&code).list(&payload);
+    let exact = lines::message(port, &lines::Fields { from, to, code, payload }).len();
+    (making, exact)
+}
+
+/// The opcodes of a message's line that fix the lengths of from, to and code, and those lengths.
+const FIXED: [(u8, [usize; 3]); 3] = [(0x8A, [2, 2, 1]), (0x8B, [2, 2, 2]), (0x8C, [0, 2, 1])];
+
+/// Such a line, and how many bytes it has.
+fn fixed_line(which: usize, port: u8, payload: usize, random: &mut Random) -> (Making, usize) {
+    let (opcode, lengths) = FIXED[which];
+    let [from, to, code] = lengths.map(|length| random.specials(length));
+    let payload = random.content(payload);
+    let making = op(opcode).b(port).raw(&from).raw(&to).raw(&code).list(&payload);
     let exact = lines::message(port, &lines::Fields { from, to, code, payload }).len();
     (making, exact)
 }
@@ -82,6 +96,7 @@ pub fn line_sweep(random: &mut Random, calls: &mut Vec<Call>) {
     every_room(line, exact, random, calls);
     line_digits(random, calls);
     line_fields(random, calls);
+    fixed_lines(random, calls);
     calls.push(longest_call(false, random));
 }
 
@@ -134,6 +149,25 @@ fn line_fields(random: &mut Random, calls: &mut Vec<Call>) {
     }
 }
 
+/// Lines whose lengths the opcode says but for the payload's: every room of a short one, every
+/// digit of the port, and payloads up to the first that are too long with every kind of room.
+fn fixed_lines(random: &mut Random, calls: &mut Vec<Call>) {
+    for which in 0..FIXED.len() {
+        let (line, exact) = fixed_line(which, 3, 2, random);
+        every_room(line, exact, random, calls);
+        for port in BYTES_OF_DIGITS {
+            let (line, exact) = fixed_line(which, port, 1, random);
+            calls.push(line.list(&random.bytes(exact)).from(FIXED_LINES));
+        }
+        for payload in [0, 1, 2, 254, 255, 256, 257, 300] {
+            let (line, exact) = fixed_line(which, 1 + which as u8, payload, random);
+            for room in [0, exact - 1, exact, exact + 1, 2100] {
+                calls.push(line.again().list(&random.bytes(room)).from(FIXED_LINES));
+            }
+        }
+    }
+}
+
 /// The longest call there may be, or one of a byte more.
 pub fn longest_call(is_too_long: bool, random: &mut Random) -> Call {
     let lists = [16_384, 16_384, 16_384, 16_372 - 100 + usize::from(is_too_long)];
@@ -142,7 +176,7 @@ pub fn longest_call(is_too_long: bool, random: &mut Random) -> Call {
 }
 
 pub fn random_line(random: &mut Random) -> Call {
-    let (line, exact) = match random.below(4) {
+    let (line, exact) = match random.below(5) {
         0 => {
             let line = damage_line(random.byte(), random.byte());
             let exact = exact_length(&line);
@@ -153,6 +187,11 @@ pub fn random_line(random: &mut Random) -> Call {
             let line = end_line(messages, random.next() >> random.below(64));
             let exact = exact_length(&line);
             (line, exact)
+        }
+        2 => {
+            let payload = random.pick(&[0, 1, 2, 20, 254, 255, 256]);
+            let port = random.byte() >> random.below(8);
+            fixed_line(random.below(FIXED.len()), port, payload, random)
         }
         _ => {
             let length = random.pick(&[0, 1, 2, 20, 254, 255, 256]);
@@ -199,7 +238,7 @@ fn fresh_states() -> States {
 }
 
 /// A state that is outside its range.
-fn spoilt_state(family: Family, random: &mut Random) -> Vec<u8> {
+pub fn spoilt_state(family: Family, random: &mut Random) -> Vec<u8> {
     let shape = shape(family);
     let held = random.content(shape.held);
     let (stage, count) = random.pick(&[(0, 4), (4, 0), (255, 0), (1, 267), (2, 65_535)]);

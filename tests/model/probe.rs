@@ -12,6 +12,9 @@ const LONGEST_LIST: usize = 16_384;
 /// "A call of more than 65,536 bytes".
 const LONGEST_CALL: usize = 65_536;
 
+/// What is lent at most of a HELD list.
+const MOST_HELD_LENT: usize = 512;
+
 /// "`test_probe` reads calls from standard input, makes each, and writes its result to standard
 /// output, call after call, until the input ends. A call whose bytes are not all there, an opcode
 /// that is not listed, a list longer than it may be, or a call of more than 65,536 bytes, ends it:
@@ -77,6 +80,11 @@ impl<'a> Arguments<'a> {
     fn lent(&mut self) -> Option<Vec<u8>> {
         self.list().map(<[u8]>::to_vec)
     }
+
+    /// "HELD is a list, of which the first 512 bytes are lent".
+    fn held(&mut self) -> Option<Vec<u8>> {
+        self.list().map(|list| list[..list.len().min(MOST_HELD_LENT)].to_vec())
+    }
 }
 
 /// A result that grows field after field, beginning with the answer number.
@@ -116,6 +124,9 @@ fn next_result(calls: &mut Arguments) -> Option<Vec<u8>> {
         0x04 => Some(put_comlynx_state(Answer::of(number::DONE), &comlynx::fresh())),
         0x05 => Some(put_eversolar_state(Answer::of(number::DONE), &eversolar::fresh())),
         0x06 => Some(put_fronius_state(Answer::of(number::DONE), &fronius::fresh())),
+        0x07 => read_comlynx_in_place(calls),
+        0x08 => read_eversolar_in_place(calls),
+        0x09 => read_fronius_in_place(calls),
         0x11 => write_comlynx(calls),
         0x12 => write_eversolar(calls),
         0x13 => write_fronius(calls),
@@ -143,6 +154,7 @@ fn next_result(calls: &mut Arguments) -> Option<Vec<u8>> {
         0x72 => checksum_going_on(calls),
         0x73 => checksum_sent(calls),
         0x74 => checksum_over_the_first(calls),
+        0x75 => checksum_over_both(calls),
         0x81 => header_line(calls),
         0x82 => message_line(calls),
         0x83 => damage_line(calls),
@@ -152,6 +164,9 @@ fn next_result(calls: &mut Arguments) -> Option<Vec<u8>> {
         0x87 => read_a_port(calls),
         0x88 => Some(put_listing(Answer::of(number::DONE), &by_packet::fresh())),
         0x89 => list_a_packet(calls),
+        0x8A => message_line_of(calls, [2, 2, 1]),
+        0x8B => message_line_of(calls, [2, 2, 2]),
+        0x8C => message_line_of(calls, [0, 2, 1]),
         _ => None,
     };
     let length = bytes_before - calls.rest.len();
@@ -166,7 +181,22 @@ fn comlynx_state(calls: &mut Arguments) -> Option<comlynx::State> {
 }
 
 fn read_comlynx(calls: &mut Arguments) -> Option<Answer> {
-    let mut state = comlynx_state(calls)?;
+    let state = comlynx_state(calls)?;
+    comlynx_call(calls, state, put_comlynx_state)
+}
+
+fn read_comlynx_in_place(calls: &mut Arguments) -> Option<Answer> {
+    let (stage, count) = (calls.byte()?, calls.word()?);
+    let held = calls.held()?;
+    comlynx_call(calls, comlynx::State { held, stage, count }, put_comlynx_in_place)
+}
+
+/// The call on a state, wherever its held bytes are kept; the two ways hand it back differently.
+fn comlynx_call(
+    calls: &mut Arguments,
+    mut state: comlynx::State,
+    put_state: fn(Answer, &comlynx::State) -> Answer,
+) -> Option<Answer> {
     let (piece, mut lent) = (calls.list()?, calls.lent()?);
     let reading = comlynx::read(&mut state, piece, &mut lent);
     let answer = Answer::of(reading.number).word(reading.used as u16);
@@ -178,11 +208,16 @@ fn read_comlynx(calls: &mut Arguments) -> Option<Answer> {
             .word(message.payload.len() as u16),
         None => answer.bytes(&[0; 7]),
     };
-    Some(put_comlynx_state(answer, &state).list(&lent))
+    Some(put_state(answer, &state).list(&lent))
 }
 
 fn put_comlynx_state(answer: Answer, state: &comlynx::State) -> Answer {
     answer.bytes(&state.held).byte(state.stage).word(state.count)
+}
+
+/// "stage:B, count:W, HELD instead of STATE".
+fn put_comlynx_in_place(answer: Answer, state: &comlynx::State) -> Answer {
+    answer.byte(state.stage).word(state.count).list(&state.held)
 }
 
 fn eversolar_state(calls: &mut Arguments) -> Option<eversolar::State> {
@@ -192,7 +227,21 @@ fn eversolar_state(calls: &mut Arguments) -> Option<eversolar::State> {
 }
 
 fn read_eversolar(calls: &mut Arguments) -> Option<Answer> {
-    let mut state = eversolar_state(calls)?;
+    let state = eversolar_state(calls)?;
+    eversolar_call(calls, state, put_eversolar_state)
+}
+
+fn read_eversolar_in_place(calls: &mut Arguments) -> Option<Answer> {
+    let (stage, count, length) = (calls.byte()?, calls.word()?, calls.word()?);
+    let held = calls.held()?;
+    eversolar_call(calls, eversolar::State { held, stage, count, length }, put_eversolar_in_place)
+}
+
+fn eversolar_call(
+    calls: &mut Arguments,
+    mut state: eversolar::State,
+    put_state: fn(Answer, &eversolar::State) -> Answer,
+) -> Option<Answer> {
     let (piece, mut lent) = (calls.list()?, calls.lent()?);
     let reading = eversolar::read(&mut state, piece, &mut lent);
     let answer = Answer::of(reading.number).word(reading.used as u16);
@@ -205,11 +254,15 @@ fn read_eversolar(calls: &mut Arguments) -> Option<Answer> {
             .word(message.payload.len() as u16),
         None => answer.bytes(&[0; 8]),
     };
-    Some(put_eversolar_state(answer, &state).list(&lent))
+    Some(put_state(answer, &state).list(&lent))
 }
 
 fn put_eversolar_state(answer: Answer, state: &eversolar::State) -> Answer {
     answer.bytes(&state.held).byte(state.stage).word(state.count).word(state.length)
+}
+
+fn put_eversolar_in_place(answer: Answer, state: &eversolar::State) -> Answer {
+    answer.byte(state.stage).word(state.count).word(state.length).list(&state.held)
 }
 
 fn fronius_state(calls: &mut Arguments) -> Option<fronius::State> {
@@ -219,7 +272,21 @@ fn fronius_state(calls: &mut Arguments) -> Option<fronius::State> {
 }
 
 fn read_fronius(calls: &mut Arguments) -> Option<Answer> {
-    let mut state = fronius_state(calls)?;
+    let state = fronius_state(calls)?;
+    fronius_call(calls, state, put_fronius_state)
+}
+
+fn read_fronius_in_place(calls: &mut Arguments) -> Option<Answer> {
+    let (stage, count, length) = (calls.byte()?, calls.word()?, calls.word()?);
+    let held = calls.held()?;
+    fronius_call(calls, fronius::State { held, stage, count, length }, put_fronius_in_place)
+}
+
+fn fronius_call(
+    calls: &mut Arguments,
+    mut state: fronius::State,
+    put_state: fn(Answer, &fronius::State) -> Answer,
+) -> Option<Answer> {
     let (piece, mut lent) = (calls.list()?, calls.lent()?);
     let reading = fronius::read(&mut state, piece, &mut lent);
     let answer = Answer::of(reading.number).word(reading.used as u16);
@@ -231,11 +298,15 @@ fn read_fronius(calls: &mut Arguments) -> Option<Answer> {
             .word(message.payload.len() as u16),
         None => answer.bytes(&[0; 5]),
     };
-    Some(put_fronius_state(answer, &state).list(&lent))
+    Some(put_state(answer, &state).list(&lent))
 }
 
 fn put_fronius_state(answer: Answer, state: &fronius::State) -> Answer {
     answer.bytes(&state.held).byte(state.stage).word(state.count).word(state.length)
+}
+
+fn put_fronius_in_place(answer: Answer, state: &fronius::State) -> Answer {
+    answer.byte(state.stage).word(state.count).word(state.length).list(&state.held)
 }
 
 // ---- writers ----
@@ -469,6 +540,11 @@ fn checksum_over_the_first(calls: &mut Arguments) -> Option<Answer> {
     Some(Answer::of(number::DONE).word(checksum::over(&list[..first])))
 }
 
+fn checksum_over_both(calls: &mut Arguments) -> Option<Answer> {
+    let (first, second) = (calls.list()?, calls.list()?);
+    Some(Answer::of(number::DONE).word(checksum::over_both(first, second)))
+}
+
 // ---- the listing's lines ----
 
 fn put_line(line: &str, mut lent: Vec<u8>) -> Answer {
@@ -484,9 +560,20 @@ fn message_line(calls: &mut Arguments) -> Option<Answer> {
     let port = calls.byte()?;
     let (from, to) = (calls.list()?.to_vec(), calls.list()?.to_vec());
     let (code, payload) = (calls.list()?.to_vec(), calls.list()?.to_vec());
-    let mut lent = calls.lent()?;
-    let written = lines::write_message(port, &Fields { from, to, code, payload }, &mut lent);
-    Some(put_written(&written, &lent))
+    Some(put_message_line(port, &Fields { from, to, code, payload }, calls.lent()?))
+}
+
+/// "Ops 8A to 8C write the line of op 82 for those lists": from, to and code have these lengths.
+fn message_line_of(calls: &mut Arguments, lengths: [usize; 3]) -> Option<Answer> {
+    let port = calls.byte()?;
+    let (from, to) = (calls.bytes(lengths[0])?.to_vec(), calls.bytes(lengths[1])?.to_vec());
+    let (code, payload) = (calls.bytes(lengths[2])?.to_vec(), calls.list()?.to_vec());
+    Some(put_message_line(port, &Fields { from, to, code, payload }, calls.lent()?))
+}
+
+fn put_message_line(port: u8, fields: &Fields, mut lent: Vec<u8>) -> Answer {
+    let written = lines::write_message(port, fields, &mut lent);
+    put_written(&written, &lent)
 }
 
 fn damage_line(calls: &mut Arguments) -> Option<Answer> {
