@@ -14,6 +14,15 @@ title-one = writes-one false titleLine
 pub message-one : (port : ℕ) (m : Shown) (lent a b : List ℕ) (v w : Written) → IsMessage port m lent v a → IsMessage port m lent w b → (v ≡ w) × (a ≡ b)
 message-one port m = writes-one (tooLong m) (messageLine port m)
 
+pub message-2-2-1-one : (port : ℕ) (m : Shown) (lent a b : List ℕ) (v w : Written) → IsMessage port m lent v a → IsMessage port m lent w b → (v ≡ w) × (a ≡ b)
+message-2-2-1-one = message-one
+
+pub message-2-2-2-one : (port : ℕ) (m : Shown) (lent a b : List ℕ) (v w : Written) → IsMessage port m lent v a → IsMessage port m lent w b → (v ≡ w) × (a ≡ b)
+message-2-2-2-one = message-one
+
+pub message-0-2-1-one : (port : ℕ) (m : Shown) (lent a b : List ℕ) (v w : Written) → IsMessage port m lent v a → IsMessage port m lent w b → (v ≡ w) × (a ≡ b)
+message-0-2-1-one = message-one
+
 pub damage-one : (port number : ℕ) (lent a b : List ℕ) (v w : Written) → IsDamage port number lent v a → IsDamage port number lent w b → (v ≡ w) × (a ≡ b)
 damage-one port number = writes-one false (damageLine port number)
 

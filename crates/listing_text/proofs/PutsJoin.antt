@@ -41,6 +41,10 @@ written l m text other r e room x =
     subst (λ (k : List ℕ). Writes false other l (Done r) k) (sym whole)
     (subst (λ (k : ℕ). Writes false other l (Done k) (other ++ drop (length other) l)) long (writes-done other l room))
 
+-- the two digits of a byte
+pub digits-put : (l : List ℕ) (at b : ℕ) → Put l at (hex (b ∷ [])) (at + 2) (set (set l at (hexDigit (b / 16))) (at + 1) (hexDigit (b % 16)))
+digits-put l at b = (refl, rw (add-one at))
+
 -- two digits, and what is left
 pub two : (bs l : List ℕ) (i p : ℕ) → i < length bs
     → sets (set (set l p (hexDigit (getD bs i 0 / 16))) (p + 1) (hexDigit (getD bs i 0 % 16))) (p + 2) (hex (drop (i + 1) bs)) ≡ sets l p (hex (drop i bs))

@@ -1,12 +1,15 @@
 -- Need not be read: no public promise cites this. It is what the inner functions promise.
 use Prim.Native.Nat.{ℕ, zero, suc, _+_, _*_}
 use mathlib.Core.Path.{_≡_}
-use mathlib.Core.Bool.{cond}
+use mathlib.Core.Bool.{Bool, cond}
 use mathlib.Core.List.{List, [], _∷_, _++_}
 use lib.ListN.{length}
 use lib.Seq.{sets}
 use lib.Dec.{eqb}
-use Rattle.listing_text.specs.Lines.{hexDigit, decimal, Shown}
+use Rattle.answers.specs.declared.Refusal.the-variants.{TooLong, NoRoom}
+use Rattle.answers.specs.declared.Written.{Written}
+use Rattle.answers.specs.declared.Written.the-variants.{Refused}
+use Rattle.listing_text.specs.Lines.{hexDigit, field, decimal, Shown}
 
 -- `width`: the bytes that the field of n bytes takes
 unfoldable pub widthOf : ℕ → ℕ
@@ -27,13 +30,28 @@ hexDigits = digitsFrom 0 16
 abbrev pub placesMax : ℕ
 placesMax = 20
 
--- `message_length`
+-- `widths`
+abbrev pub widthsOf : (from to code : List ℕ) → ℕ
+widthsOf from to code = widthOf (length from) + widthOf (length to) + widthOf (length code)
+
+-- `is_refused`: of a line whose first three fields take so many bytes, and whose data have n
+abbrev pub lineLength : (port three n : ℕ) → ℕ
+lineLength port three n = length (decimal port) + three + widthOf n + 7
+
 abbrev pub messageLength : (port : ℕ) → Shown → ℕ
-messageLength port m = length (decimal port) + widthOf (length (m .from)) + widthOf (length (m .to)) + widthOf (length (m .code)) + widthOf (length (m .payload)) + 7
+messageLength port m = lineLength port (widthsOf (m .from) (m .to) (m .code)) (length (m .payload))
+
+-- `refusal`
+abbrev pub refusedFor : (tooLong : Bool) → Written
+refusedFor tooLong = cond tooLong (Refused TooLong) (Refused NoRoom)
 
 -- `put_start`
 abbrev pub start : (port : ℕ) → List ℕ
 start port = decimal port ++ (32 ∷ 49 ∷ 32 ∷ [])
+
+-- `put_2_2`, `put_0_2`
+abbrev pub beforeCode : (port : ℕ) → (from to : List ℕ) → List ℕ
+beforeCode port from to = (start port ++ (field from ++ (32 ∷ []))) ++ (field to ++ (32 ∷ []))
 
 -- what is put at an index: the index behind it, and the buffer afterwards
 abbrev pub Put : List ℕ → (at : ℕ) → (text : List ℕ) → (r : ℕ) → List ℕ → Type 0

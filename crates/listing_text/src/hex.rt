@@ -56,7 +56,7 @@ fn put_hex(bytes: &[u8], lent: &mut [u8], at: usize) -> usize
 // The digits in order, for what is too short for that.
 const DIGITS: [u8; 16] = *b"0123456789ABCDEF";
 
-pub(crate) fn digits() -> [u8; 16]
+fn digits() -> [u8; 16]
     ensures { λ r. ⌜ r ≡ hexDigits ⌝ }
 {
     DIGITS
@@ -94,27 +94,65 @@ fn put_rest(bytes: &[u8], from: usize, t: &[u8; 16], lent: &mut [u8], at: usize)
 }
 
 // Eight bytes at a time, and what is left of the list one by one.
-fn put_all(bytes: &[u8], t: &[u8; 16], lent: &mut [u8], at: usize) -> usize
-    requires { ⌜ (now t ≡ hexDigits) × (at + 2 * length (now bytes) ≤ length (now lent)) ⌝ }
+fn put_all(bytes: &[u8], lent: &mut [u8], at: usize) -> usize
+    requires { ⌜ at + 2 * length (now bytes) ≤ length (now lent) ⌝ }
     ensures { λ r. ⌜ Put (now (lent .entry)) at (hex (now (bytes .entry))) r (now (lent .exit)) ⌝ }
 {
     let n = bytes.len() / 8 * 8;
     let p = put_hex(&bytes[..n], lent, at);
-    put_rest(bytes, n, t, lent, p)
+    let t = digits();
+    put_rest(bytes, n, &t, lent, p)
+}
+
+// The field of no bytes, and the byte that ends it.
+pub(crate) fn put_none(after: u8, lent: &mut [u8], at: usize) -> usize
+    requires { ⌜ at + 1 < length (now lent) ⌝ }
+    ensures { λ r. ⌜ Put (now (lent .entry)) at (field [] ++ (after ∷ [])) r (now (lent .exit)) ⌝ }
+    ensures { λ r. ⌜ r ≡ at + 2 ⌝ }
+{
+    lent[at] = b'-';
+    lent[at + 1] = after;
+    at + 2
+}
+
+// The field of one byte, and a space: no loop, and no test of a length.
+pub(crate) fn put_one(a: u8, lent: &mut [u8], at: usize) -> usize
+    requires { ⌜ at + 2 < length (now lent) ⌝ }
+    ensures { λ r. ⌜ Put (now (lent .entry)) at (field (a ∷ []) ++ (32 ∷ [])) r (now (lent .exit)) ⌝ }
+    ensures { λ r. ⌜ r ≡ at + 3 ⌝ }
+{
+    let t = digits();
+    lent[at] = t[(a / 16) as usize];
+    lent[at + 1] = t[(a % 16) as usize];
+    lent[at + 2] = b' ';
+    at + 3
+}
+
+// The field of two bytes, and a space.
+pub(crate) fn put_two(a: u8, b: u8, lent: &mut [u8], at: usize) -> usize
+    requires { ⌜ at + 4 < length (now lent) ⌝ }
+    ensures { λ r. ⌜ Put (now (lent .entry)) at (field (a ∷ b ∷ []) ++ (32 ∷ [])) r (now (lent .exit)) ⌝ }
+    ensures { λ r. ⌜ r ≡ at + 5 ⌝ }
+{
+    let t = digits();
+    lent[at] = t[(a / 16) as usize];
+    lent[at + 1] = t[(a % 16) as usize];
+    lent[at + 2] = t[(b / 16) as usize];
+    lent[at + 3] = t[(b % 16) as usize];
+    lent[at + 4] = b' ';
+    at + 5
 }
 
 // The field, and the byte that ends it.
-pub(crate) fn put_field(bytes: &[u8], after: u8, t: &[u8; 16], lent: &mut [u8], at: usize) -> usize
-    requires { ⌜ (now t ≡ hexDigits) × (at + widthOf (length (now bytes)) < length (now lent)) ⌝ }
+pub(crate) fn put_field(bytes: &[u8], after: u8, lent: &mut [u8], at: usize) -> usize
+    requires { ⌜ at + widthOf (length (now bytes)) < length (now lent) ⌝ }
     ensures { λ r. ⌜ Put (now (lent .entry)) at (field (now (bytes .entry)) ++ (after ∷ [])) r (now (lent .exit)) ⌝ }
     ensures { λ r. ⌜ r ≡ at + widthOf (length (now (bytes .entry))) + 1 ⌝ }
 {
     if bytes.len() == 0 {
-        lent[at] = b'-';
-        lent[at + 1] = after;
-        return at + 2;
+        return put_none(after, lent, at);
     }
-    let p = put_all(bytes, t, lent, at);
+    let p = put_all(bytes, lent, at);
     lent[p] = after;
     p + 1
 }

@@ -1,16 +1,19 @@
 // The text of each line of a listing, written at the front of a lent buffer.
 use crate::decimal::places;
 use crate::decimal::put_number;
-use crate::hex::digits;
 use crate::hex::put_field;
+use crate::hex::put_none;
+use crate::hex::put_one;
+use crate::hex::put_two;
 use crate::hex::width;
 use answers::Refusal;
 use answers::Written;
-ghost use Rattle.listing_text.specs.Lines.{decimal, shown, tooLong, messageLine, IsTitle, IsMessage, IsDamage, IsStop, IsEnd};
-ghost use Rattle.listing_text.specs.Inside.{messageLength, start, Put};
-ghost use Prim.Native.Nat.{_+_, _≤_};
+ghost use Rattle.listing_text.specs.Lines.{decimal, fieldMax, shown, tooLong, messageLine, IsTitle, IsMessage, IsDamage, IsStop, IsEnd};
+ghost use Rattle.listing_text.specs.Inside.{widthMax, widthsOf, lineLength, messageLength, refusedFor, start, beforeCode, Put};
+ghost use Prim.Native.Nat.{_+_, _*_, _≤_};
 ghost use mathlib.Core.Path.{_≡_};
-ghost use mathlib.Core.Bool.{false};
+ghost use mathlib.Core.Bool.{_||_};
+ghost use mathlib.Core.List.{[], _∷_};
 ghost use lib.Dec.{ltb};
 ghost use lib.ListN.{length};
 
@@ -52,28 +55,38 @@ fn too_long(from: &[u8], to: &[u8], code: &[u8], payload: &[u8]) -> bool
         | (FIELD_MAX < payload.len())
 }
 
-// How long the line of a message is that is not too long.
-fn message_length(port: u8, from: &[u8], to: &[u8], code: &[u8], payload: &[u8]) -> usize
-    requires { ⌜ tooLong (shown (now from) (now to) (now code) (now payload)) ≡ false ⌝ }
-    ensures { λ r. ⌜ r ≡ messageLength port (shown (now (from .entry)) (now (to .entry)) (now (code .entry)) (now (payload .entry))) ⌝ }
+// How many bytes the fields of the first three take.
+fn widths(from: &[u8], to: &[u8], code: &[u8]) -> usize
+    requires { ⌜ (length (now from) ≤ fieldMax) × (length (now to) ≤ fieldMax) × (length (now code) ≤ fieldMax) ⌝ }
+    ensures { λ r. ⌜ r ≡ widthsOf (now (from .entry)) (now (to .entry)) (now (code .entry)) ⌝ }
+    ensures { λ r. ⌜ r ≤ 3 * widthMax ⌝ }
 {
-    places(port as u64)
-        + width(from.len())
-        + width(to.len())
-        + width(code.len())
-        + width(payload.len())
-        + 7
+    width(from.len()) + width(to.len()) + width(code.len())
 }
 
-// Whether there is no room for it. Where there is room for any, its length is not needed.
-fn no_room(port: u8, from: &[u8], to: &[u8], code: &[u8], payload: &[u8], room: usize) -> bool
-    requires { ⌜ tooLong (shown (now from) (now to) (now code) (now payload)) ≡ false ⌝ }
-    ensures { λ r. ⌜ r ≡ ltb room (messageLength port (shown (now (from .entry)) (now (to .entry)) (now (code .entry)) (now (payload .entry)))) ⌝ }
+// Whether a line is refused whose first three fields take `three` bytes, and whose data have `n`. Where there is room for any
+// line, its length is not needed.
+fn is_refused(port: u8, three: usize, n: usize, room: usize) -> bool
+    requires { ⌜ three ≤ 3 * widthMax ⌝ }
+    ensures { λ r. ⌜ r ≡ (ltb fieldMax n || ltb room (lineLength port three n)) ⌝ }
 {
+    if FIELD_MAX < n {
+        return true;
+    }
     if LINE_MAX <= room {
         return false;
     }
-    room < message_length(port, from, to, code, payload)
+    room < places(port as u64) + three + width(n) + 7
+}
+
+// What it is refused with.
+fn refusal(n: usize) -> Written
+    ensures { λ w. ⌜ w ≡ refusedFor (ltb fieldMax n) ⌝ }
+{
+    if FIELD_MAX < n {
+        return Written::Refused(Refusal::TooLong);
+    }
+    Written::Refused(Refusal::NoRoom)
 }
 
 // What stands before the four lists: the port, and 1, the answer that a message read is.
@@ -88,6 +101,27 @@ fn put_start(port: u8, lent: &mut [u8]) -> usize
     p + 2
 }
 
+// What stands before the code: from and to have two bytes each, or from has none and to has two.
+fn put_2_2(port: u8, from1: u8, from2: u8, to1: u8, to2: u8, lent: &mut [u8]) -> usize
+    requires { ⌜ length (decimal port) + 13 ≤ length (now lent) ⌝ }
+    ensures { λ r. ⌜ Put (now (lent .entry)) 0 (beforeCode port (from1 ∷ from2 ∷ []) (to1 ∷ to2 ∷ [])) r (now (lent .exit)) ⌝ }
+    ensures { λ r. ⌜ r ≡ length (decimal port) + 13 ⌝ }
+{
+    let p = put_start(port, lent);
+    let q = put_two(from1, from2, lent, p);
+    put_two(to1, to2, lent, q)
+}
+
+fn put_0_2(port: u8, to1: u8, to2: u8, lent: &mut [u8]) -> usize
+    requires { ⌜ length (decimal port) + 10 ≤ length (now lent) ⌝ }
+    ensures { λ r. ⌜ Put (now (lent .entry)) 0 (beforeCode port [] (to1 ∷ to2 ∷ [])) r (now (lent .exit)) ⌝ }
+    ensures { λ r. ⌜ r ≡ length (decimal port) + 10 ⌝ }
+{
+    let p = put_start(port, lent);
+    let q = put_none(b' ', lent, p);
+    put_two(to1, to2, lent, q)
+}
+
 // The line of a message, where there is room for it.
 fn put_message(
     port: u8,
@@ -100,12 +134,11 @@ fn put_message(
     requires { ⌜ messageLength port (shown (now from) (now to) (now code) (now payload)) ≤ length (now lent) ⌝ }
     ensures { λ r. ⌜ Put (now (lent .entry)) 0 (messageLine port (shown (now (from .entry)) (now (to .entry)) (now (code .entry)) (now (payload .entry)))) r (now (lent .exit)) ⌝ }
 {
-    let t = digits();
     let p = put_start(port, lent);
-    let q = put_field(from, b' ', &t, lent, p);
-    let r = put_field(to, b' ', &t, lent, q);
-    let s = put_field(code, b' ', &t, lent, r);
-    put_field(payload, b'\n', &t, lent, s)
+    let q = put_field(from, b' ', lent, p);
+    let r = put_field(to, b' ', lent, q);
+    let s = put_field(code, b' ', lent, r);
+    put_field(payload, b'\n', lent, s)
 }
 
 // Writes the line of a message that came from `port`. Nothing is stored before both tests have held.
@@ -122,10 +155,74 @@ pub fn message(
     if too_long(from, to, code, payload) {
         return Written::Refused(Refusal::TooLong);
     }
-    if no_room(port, from, to, code, payload, lent.len()) {
+    let three = widths(from, to, code);
+    if is_refused(port, three, payload.len(), lent.len()) {
         return Written::Refused(Refusal::NoRoom);
     }
     Written::Done(put_message(port, from, to, code, payload, lent))
+}
+
+// The same line where from, to and code have 2, 2 and 1 bytes. There is a function for each shape, so that the compiler knows the
+// lengths; with one caller it is inlined there.
+pub fn message_2_2_1(
+    port: u8,
+    from1: u8,
+    from2: u8,
+    to1: u8,
+    to2: u8,
+    code: u8,
+    payload: &[u8],
+    lent: &mut [u8],
+) -> Written
+    ensures { λ w. ⌜ IsMessage port (shown (from1 ∷ from2 ∷ []) (to1 ∷ to2 ∷ []) (code ∷ []) (now (payload .entry))) (now (lent .entry)) w (now (lent .exit)) ⌝ }
+{
+    if is_refused(port, 10, payload.len(), lent.len()) {
+        return refusal(payload.len());
+    }
+    let p = put_2_2(port, from1, from2, to1, to2, lent);
+    let q = put_one(code, lent, p);
+    Written::Done(put_field(payload, b'\n', lent, q))
+}
+
+// The same where they have 2, 2 and 2.
+pub fn message_2_2_2(
+    port: u8,
+    from1: u8,
+    from2: u8,
+    to1: u8,
+    to2: u8,
+    code1: u8,
+    code2: u8,
+    payload: &[u8],
+    lent: &mut [u8],
+) -> Written
+    ensures { λ w. ⌜ IsMessage port (shown (from1 ∷ from2 ∷ []) (to1 ∷ to2 ∷ []) (code1 ∷ code2 ∷ []) (now (payload .entry))) (now (lent .entry)) w (now (lent .exit)) ⌝ }
+{
+    if is_refused(port, 12, payload.len(), lent.len()) {
+        return refusal(payload.len());
+    }
+    let p = put_2_2(port, from1, from2, to1, to2, lent);
+    let q = put_two(code1, code2, lent, p);
+    Written::Done(put_field(payload, b'\n', lent, q))
+}
+
+// The same where they have none, 2 and 1.
+pub fn message_0_2_1(
+    port: u8,
+    to1: u8,
+    to2: u8,
+    code: u8,
+    payload: &[u8],
+    lent: &mut [u8],
+) -> Written
+    ensures { λ w. ⌜ IsMessage port (shown [] (to1 ∷ to2 ∷ []) (code ∷ []) (now (payload .entry))) (now (lent .entry)) w (now (lent .exit)) ⌝ }
+{
+    if is_refused(port, 7, payload.len(), lent.len()) {
+        return refusal(payload.len());
+    }
+    let p = put_0_2(port, to1, to2, lent);
+    let q = put_one(code, lent, p);
+    Written::Done(put_field(payload, b'\n', lent, q))
 }
 
 // Writes the line of a damage, by the port and the damage's number.

@@ -2,16 +2,16 @@
 -- Assumes nothing.
 use native.Mathlib.Omega.{arith}
 use borrow.Author.Needs.{needs}
-use borrow.Author.Tests.{ltb-true, ltb-false}
+use borrow.Author.Tests.{le-ltb, ltb-false}
 use lib.ListN.{length}
-use mathlib.Core.Path.{_≡_, refl, sym, _∙_}
-use mathlib.Core.Bool.{Bool, true, false}
+use mathlib.Core.Path.{_≡_, sym, ap, _∙_}
+use mathlib.Core.Bool.{Bool, false, _||_}
 use lib.Dec.{ltb}
-use Rattle.answers.proofs.WriterPromise.{writes-too-long, writes-no-room}
-use Rattle.listing_text.specs.Lines.{Shown, shown, tooLong, messageLine}
-use Rattle.listing_text.specs.Inside.{messageLength}
-use Rattle.listing_text.proofs.FieldLengths.{message-length}
-use Rattle.listing_text.proofs.PutsJoin.{written}
+use Prim.Native.Nat.{ℕ, _≤_}
+use Rattle.listing_text.specs.Lines.{Shown, shown, tooLong, fieldMax}
+use Rattle.listing_text.specs.Inside.{lineLength, messageLength}
+use Rattle.listing_text.proofs.FieldLengths.{within}
+use Rattle.listing_text.proofs.MessageWrites.{message-too-long, message-no-room, message-written}
 use Rattle.listing_text.proofs.message.Statement.{statement}
 use Rattle.listing_text.proofs.message.Tie as tie
 
@@ -19,33 +19,43 @@ abbrev given : tie.Start → Shown
 given c = shown (c .args .from .now) (c .args .to .now) (c .args .code .now) (c .args .payload .now)
 
 -- the two tests: what a function told of a test is what the test comes to
-test-long : (s : tie.Start) (b : Bool) {told : Bool} → told ≡ tooLong (given s) → told ≡ b → tooLong (given s) ≡ b
-test-long s b said is = sym said ∙ is
+test-long : (c : tie.After-too-long) (b : Bool) → c .too-long .result ≡ b → tooLong (given (c .before .before .before .before .before .before)) ≡ b
+test-long c b is = sym (c .too-long .ensures) ∙ is
 
-test-room : (s : tie.Start) (b : Bool) {told : Bool} → told ≡ ltb (length (s .args .lent .now)) (messageLength (s .args .port) (given s)) → told ≡ b → ltb (length (s .args .lent .now)) (messageLength (s .args .port) (given s)) ≡ b
-test-room s b said is = sym said ∙ is
+-- none of the four is too long
+lengths : (c : tie.Else1)
+    → (length (c .before .before .before .before .before .before .before .args .from .now) ≤ fieldMax) × (length (c .before .before .before .before .before .before .before .args .to .now) ≤ fieldMax) × (length (c .before .before .before .before .before .before .before .args .code .now) ≤ fieldMax) × (length (c .before .before .before .before .before .before .before .args .payload .now) ≤ fieldMax)
+lengths c = within (given (c .before .before .before .before .before .before .before)) (test-long (c .before) false (c .if1 .left))
+
+test-room : (c : tie.After-is-refused) (b : Bool) → c .is-refused .result ≡ b
+    → ltb (length (c .before .before .before .before .before .before .before .before .before .args .lent .now)) (messageLength (c .before .before .before .before .before .before .before .before .before .args .port) (given (c .before .before .before .before .before .before .before .before .before))) ≡ b
+test-room c b is =
+    let a = c .before .before .before .before .before .before .before .before .before .args in
+    ap (λ (three : ℕ). ltb (length (a .lent .now)) (lineLength (a .port) three (length (a .payload .now)))) (sym (c .before .widths .ensures .0))
+    ∙ ap (λ (long : Bool). long || ltb (length (a .lent .now)) (lineLength (a .port) (c .before .widths .result) (length (a .payload .now)))) (sym (le-ltb fieldMax (length (a .payload .now)) (lengths (c .before .before) .3)))
+    ∙ sym (c .is-refused .ensures) ∙ is
 
 too-long-requires : tie.Need-too-long-requires
 too-long-requires c κs = search needs
 
 returns : tie.Need-returns
-returns c =
-    let s = c .before .before .before .before .before .before .before in
-    rw (test-long s true (c .before .too-long .ensures) (c .if1 .taken)) (writes-too-long (messageLine (s .args .port) (given s)) (s .args .lent .now))
+returns c = let s = c .before .before .before .before .before .before .before in message-too-long (s .args .port) (given s) (s .args .lent .now) (test-long (c .before) _ (c .if1 .taken))
 
-no-room-requires : tie.Need-no-room-requires
-no-room-requires c κs = test-long (c .before .before .before .before .before .before .before) false (c .before .too-long .ensures) (c .if1 .left)
+widths-requires : tie.Need-widths-requires
+widths-requires c κs = let l = lengths c in (l .0, l .1, l .2)
+
+is-refused-requires : tie.Need-is-refused-requires
+is-refused-requires c κs = c .widths .ensures .1
 
 returns-2 : tie.Need-returns-2
 returns-2 c =
-    let s = c .before .before .before .before .before .before .before .before .before in
-    rw (test-long s false (c .before .before .before .too-long .ensures) (c .before .before .if1 .left))
-    (writes-no-room (messageLine (s .args .port) (given s)) (s .args .lent .now) (omega (arith, message-length (s .args .port) (given s), ltb-true (length (s .args .lent .now)) (messageLength (s .args .port) (given s)) (test-room s true (c .before .no-room .ensures) (c .if2 .taken)))))
+    let s = c .before .before .before .before .before .before .before .before .before .before in
+    message-no-room (s .args .port) (given s) (s .args .lent .now) (test-long (c .before .before .before .before) _ (c .before .before .before .if1 .left)) (test-room (c .before) _ (c .if2 .taken))
 
 put-message-requires : tie.Need-put-message-requires
 put-message-requires c κs =
-    let s = c .before .before .before .before .before .before .before .before .before .before in
-    ltb-false (length (s .args .lent .now)) (messageLength (s .args .port) (given s)) (test-room s false (c .before .before .no-room .ensures) (c .before .if2 .left))
+    let s = c .before .before .before .before .before .before .before .before .before .before .before in
+    ltb-false (length (s .args .lent .now)) (messageLength (s .args .port) (given s)) (test-room (c .before .before) false (c .before .if2 .left))
 
 same-length : tie.Need-same-length
 same-length c = search needs
@@ -53,11 +63,9 @@ same-length c = search needs
 returns-3 : tie.Need-returns-3
 returns-3 c =
     let e : tie.Else2 = c .before .before .before .before in
-    let s = e .before .before .before .before .before .before .before .before .before in
+    let s = e .before .before .before .before .before .before .before .before .before .before in
     let put = c .before .before .put-message in
-    let line = messageLine (s .args .port) (given s) in
-    rw (test-long s false (e .before .before .before .too-long .ensures) (e .before .before .if1 .left))
-    (written (s .args .lent .now) (put .last .1 .1 .1 .1 .1 .0) line line (put .result) refl (omega (arith, message-length (s .args .port) (given s), ltb-false (length (s .args .lent .now)) (messageLength (s .args .port) (given s)) (test-room s false (e .before .no-room .ensures) (e .if2 .left)))) (put .ensures))
+    message-written (s .args .port) (given s) (s .args .lent .now) (put .last .1 .1 .1 .1 .1 .0) (put .result) (test-long (e .before .before .before .before) _ (e .before .before .before .if1 .left)) (test-room (e .before) _ (e .if2 .left)) (put .ensures)
 
 pub message-spec : {M : Type 1} → statement M
 message-spec =
@@ -65,7 +73,8 @@ message-spec =
     (tie.spec
     too-long-requires
     returns
-    no-room-requires
+    widths-requires
+    is-refused-requires
     returns-2
     put-message-requires
     same-length

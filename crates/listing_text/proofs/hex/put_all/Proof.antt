@@ -28,25 +28,28 @@ slice-aggregate-put-hex c = sym (first (c .before .before .before .args .bytes .
 put-hex-requires : tie.Need-put-hex-requires
 put-hex-requires c κs = omega (arith, first (c .before .before .before .before .args .bytes .now))
 
+digits-requires : tie.Need-digits-requires
+digits-requires c κs = search needs
+
 put-rest-requires : tie.Need-put-rest-requires
 put-rest-requires c κs =
-    let s = c .before .before .before .before .before .before .before .before in
-    let bs = s .args .bytes .now in
-    (s .pre .0, omega arith, omega (arith, c .before .before .before .put-hex .ensures .0, hex-length (take (eights bs) bs), first bs))
+    let d : tie.After-digits = c .before .before in
+    let bs = d .before .before .before .before .before .before .before .before .args .bytes .now in
+    (d .digits .ensures, omega arith, omega (arith, d .before .before .before .put-hex .ensures .0, hex-length (take (eights bs) bs), first bs))
 
 same-length : tie.Need-same-length
 same-length c = search needs
 
 returns : tie.Need-returns
 returns c =
-    let a = c .before .before .before .before .before .before .before .before .before .before .before .args in
+    let p : tie.After-put-hex = c .before .before .before .before .before .before .before .before in
+    let a = p .before .before .before .before .before .args in
     let bs = a .bytes .now in
-    let p = c .before .before .before .before .before .before .put-hex in
     let q = c .before .before .put-rest in
-    let both = then (a .lent .now) (p .last .1 .0) (q .last .1 .1 .1 .0) (hex (take (eights bs) bs)) (hex (drop (eights bs) bs)) (a .at) (p .result) (q .result) (p .ensures) (q .ensures) in
+    let both = then (a .lent .now) (p .put-hex .last .1 .0) (q .last .1 .1 .1 .0) (hex (take (eights bs) bs)) (hex (drop (eights bs) bs)) (a .at) (p .put-hex .result) (q .result) (p .put-hex .ensures) (q .ensures) in
     rw (hex-parts (eights bs) bs) at both
 
 pub put-all-spec : {M : Type 1} → statement M
 put-all-spec =
     tie.close
-    (tie.spec mul-n slice-aggregate-put-hex put-hex-requires put-rest-requires same-length returns)
+    (tie.spec mul-n slice-aggregate-put-hex put-hex-requires digits-requires put-rest-requires same-length returns)
