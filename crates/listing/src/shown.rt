@@ -16,11 +16,17 @@ pub(crate) fn comlynx_line(port: u8, h: comlynx::Header, payload: &[u8], out: &m
     requires { ⌜ (h .len ≤ lentLeast) × (h .len ≤ length (now payload)) × (length (entryLine port (message (showComlynx (Comlynx.join h (now payload))))) ≤ length (now out)) ⌝ }
     ensures { λ r. ⌜ Put (entryLine port (message (showComlynx (Comlynx.join h (now (payload .entry)))))) (now (out .entry)) r (now (out .exit)) ⌝ }
 {
-    let from = [(h.source / 256) as u8, (h.source % 256) as u8];
-    let to = [(h.destination / 256) as u8, (h.destination % 256) as u8];
-    let code = [h.kind];
     let n = h.len;
-    listing_text::message(port, &from, &to, &code, &payload[..n], out).length()
+    listing_text::message_2_2_1(
+        port,
+        (h.source / 256) as u8,
+        (h.source % 256) as u8,
+        (h.destination / 256) as u8,
+        (h.destination % 256) as u8,
+        h.kind,
+        &payload[..n],
+        out,
+    ).length()
 }
 
 // An Eversolar message.
@@ -33,11 +39,18 @@ pub(crate) fn eversolar_line(
     requires { ⌜ (h .len ≤ lentLeast) × (h .len ≤ length (now payload)) × (length (entryLine port (message (showEversolar (Eversolar.join h (now payload))))) ≤ length (now out)) ⌝ }
     ensures { λ r. ⌜ Put (entryLine port (message (showEversolar (Eversolar.join h (now (payload .entry)))))) (now (out .entry)) r (now (out .exit)) ⌝ }
 {
-    let from = [h.source_first, h.source_second];
-    let to = [h.destination_first, h.destination_second];
-    let code = [h.control, h.function];
     let n = h.len;
-    listing_text::message(port, &from, &to, &code, &payload[..n], out).length()
+    listing_text::message_2_2_2(
+        port,
+        h.source_first,
+        h.source_second,
+        h.destination_first,
+        h.destination_second,
+        h.control,
+        h.function,
+        &payload[..n],
+        out,
+    ).length()
 }
 
 // A Fronius message, which comes from nobody.
@@ -45,10 +58,8 @@ pub(crate) fn fronius_line(port: u8, h: fronius::Header, payload: &[u8], out: &m
     requires { ⌜ (h .len ≤ lentLeast) × (h .len ≤ length (now payload)) × (length (entryLine port (message (showFronius (Fronius.join h (now payload))))) ≤ length (now out)) ⌝ }
     ensures { λ r. ⌜ Put (entryLine port (message (showFronius (Fronius.join h (now (payload .entry)))))) (now (out .entry)) r (now (out .exit)) ⌝ }
 {
-    let to = [h.device, h.number];
-    let code = [h.command];
     let n = h.len;
-    listing_text::message(port, b"", &to, &code, &payload[..n], out).length()
+    listing_text::message_0_2_1(port, h.device, h.number, h.command, &payload[..n], out).length()
 }
 
 // A damage of any family.

@@ -14,34 +14,25 @@ use Rattle.listing.proofs.shown.comlynx_line.Tie as tie
 abbrev given : tie.Start → Shown
 given c = showComlynx (join (c .args .h) (c .args .payload .now))
 
-cast-t10 : tie.Need-cast-t10
-cast-t10 c = search needs
+cast-message-2-2-1 : tie.Need-cast-message-2-2-1
+cast-message-2-2-1 c = search needs
 
-cast-t12 : tie.Need-cast-t12
-cast-t12 c = search needs
+cast-message-2-2-1-2 : tie.Need-cast-message-2-2-1-2
+cast-message-2-2-1-2 c = search needs
 
-cast-t12-2 : tie.Need-cast-t12-2
-cast-t12-2 c = search needs
+cast-message-2-2-1-3 : tie.Need-cast-message-2-2-1-3
+cast-message-2-2-1-3 c = search needs
 
-cast-t10-2 : tie.Need-cast-t10-2
-cast-t10-2 c = search needs
+cast-message-2-2-1-4 : tie.Need-cast-message-2-2-1-4
+cast-message-2-2-1-4 c = search needs
 
-slice-aggregate-message : tie.Need-slice-aggregate-message
-slice-aggregate-message c = search needs
-
-slice-aggregate-message-2 : tie.Need-slice-aggregate-message-2
-slice-aggregate-message-2 c = search needs
-
-slice-aggregate-message-3 : tie.Need-slice-aggregate-message-3
-slice-aggregate-message-3 c = search needs
-
-slice-aggregate-message-4 : tie.Need-slice-aggregate-message-4
-slice-aggregate-message-4 c =
-    let s = c .before .before .before .before .before .before .before .before .before .before in
+slice-aggregate-message-2-2-1 : tie.Need-slice-aggregate-message-2-2-1
+slice-aggregate-message-2-2-1 c =
+    let s = c .before .before .before .before .before .before .before in
     simp length-take (omega (arith, s .pre .1))
 
-message-requires : tie.Need-message-requires
-message-requires c κs = search needs
+message-2-2-1-requires : tie.Need-message-2-2-1-requires
+message-2-2-1-requires c κs = search needs
 
 length-requires : tie.Need-length-requires
 length-requires c κs = search needs
@@ -52,23 +43,20 @@ same-length c = search needs
 returns : tie.Need-returns
 returns c =
     let m = c .before .before .before in
-    let s = m .before .before .before .before .before .before .before .before .before .before .before .before in
+    let s = m .before .before .before .before .before .before .before .before .before in
     let short = not-too-long (given s) (omega arith) (omega arith) (omega arith) (simp length-take (omega (arith, s .pre .0))) in
-    put-line (tooLong (given s)) (messageLine (s .args .port) (given s)) (s .args .out .now) _ (m .message .result) _ (m .message .ensures) short (s .pre .2) (c .length .ensures)
+    put-line (tooLong (given s)) (messageLine (s .args .port) (given s)) (s .args .out .now) _ (m .message-2-2-1 .result) _ (m .message-2-2-1 .ensures) short (s .pre .2) (c .length .ensures)
 
 pub comlynx-line-spec : {M : Type 1} → statement M
 comlynx-line-spec =
     tie.close
     (tie.spec
-    cast-t10
-    cast-t12
-    cast-t12-2
-    cast-t10-2
-    slice-aggregate-message
-    slice-aggregate-message-2
-    slice-aggregate-message-3
-    slice-aggregate-message-4
-    message-requires
+    cast-message-2-2-1
+    cast-message-2-2-1-2
+    cast-message-2-2-1-3
+    cast-message-2-2-1-4
+    slice-aggregate-message-2-2-1
+    message-2-2-1-requires
     length-requires
     same-length
     returns)

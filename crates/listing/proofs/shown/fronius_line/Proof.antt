@@ -14,22 +14,13 @@ use Rattle.listing.proofs.shown.fronius_line.Tie as tie
 abbrev given : tie.Start → Shown
 given c = showFronius (join (c .args .h) (c .args .payload .now))
 
-slice-aggregate-message : tie.Need-slice-aggregate-message
-slice-aggregate-message c = search needs
-
-slice-aggregate-message-2 : tie.Need-slice-aggregate-message-2
-slice-aggregate-message-2 c = search needs
-
-slice-aggregate-message-3 : tie.Need-slice-aggregate-message-3
-slice-aggregate-message-3 c = search needs
-
-slice-aggregate-message-4 : tie.Need-slice-aggregate-message-4
-slice-aggregate-message-4 c =
-    let s = c .before .before .before .before .before .before in
+slice-aggregate-message-0-2-1 : tie.Need-slice-aggregate-message-0-2-1
+slice-aggregate-message-0-2-1 c =
+    let s = c .before .before .before in
     simp length-take (omega (arith, s .pre .1))
 
-message-requires : tie.Need-message-requires
-message-requires c κs = search needs
+message-0-2-1-requires : tie.Need-message-0-2-1-requires
+message-0-2-1-requires c κs = search needs
 
 length-requires : tie.Need-length-requires
 length-requires c κs = search needs
@@ -40,19 +31,16 @@ same-length c = search needs
 returns : tie.Need-returns
 returns c =
     let m = c .before .before .before in
-    let s = m .before .before .before .before .before .before .before .before in
+    let s = m .before .before .before .before .before in
     let short = not-too-long (given s) (omega arith) (omega arith) (omega arith) (simp length-take (omega (arith, s .pre .0))) in
-    put-line (tooLong (given s)) (messageLine (s .args .port) (given s)) (s .args .out .now) _ (m .message .result) _ (m .message .ensures) short (s .pre .2) (c .length .ensures)
+    put-line (tooLong (given s)) (messageLine (s .args .port) (given s)) (s .args .out .now) _ (m .message-0-2-1 .result) _ (m .message-0-2-1 .ensures) short (s .pre .2) (c .length .ensures)
 
 pub fronius-line-spec : {M : Type 1} → statement M
 fronius-line-spec =
     tie.close
     (tie.spec
-    slice-aggregate-message
-    slice-aggregate-message-2
-    slice-aggregate-message-3
-    slice-aggregate-message-4
-    message-requires
+    slice-aggregate-message-0-2-1
+    message-0-2-1-requires
     length-requires
     same-length
     returns)
