@@ -1,5 +1,6 @@
 // Reading a call, and making it.
 use crate::heads::say_head;
+use crate::in_place;
 use crate::packets;
 use crate::readers;
 use crate::rosters;
@@ -7,6 +8,7 @@ use crate::shapes::COMLYNX;
 use crate::shapes::EVERSOLAR;
 use crate::shapes::FRESH;
 use crate::shapes::FRONIUS;
+use crate::shapes::IN_PLACE;
 use crate::shapes::PACKETS;
 use crate::shapes::ROSTERS;
 use crate::shapes::SIDES;
@@ -56,11 +58,11 @@ fn read_list(call: &mut [u8], at: usize, there: bool) -> usize {
     read_on(call, next, list_size(call, at))
 }
 
-// Reads three lists, where they are there.
-fn read_three(call: &mut [u8], at: usize, there: bool) -> usize {
-    let next = read_list(call, at, there);
-    let next = read_list(call, next, there);
-    read_list(call, next, there)
+// Reads the lists behind the first two: one where there are three, three where there are five.
+fn read_rest(call: &mut [u8], at: usize, lists: u8) -> usize {
+    let next = read_list(call, at, lists > 2);
+    let next = read_list(call, next, lists > 3);
+    read_list(call, next, lists > 3)
 }
 
 // Reads the next call to the front of a buffer. Answers its length, far more than there is room for where it is not whole.
@@ -72,7 +74,7 @@ pub(crate) fn read(call: &mut [u8]) -> usize {
     let next = read_list(call, next, lists > 0);
     let next = read_on(call, next, shape.between);
     let next = read_list(call, next, lists > 1);
-    read_three(call, next, lists > 2)
+    read_rest(call, next, lists)
 }
 
 fn past_three(s: &[u8], at: usize) -> usize {
@@ -89,6 +91,9 @@ fn lent_at(s: &[u8], shape: Shape) -> usize {
     let second = further(past_list(s, first), shape.between);
     if which == 2 {
         return second;
+    }
+    if which == 3 {
+        return past_list(s, second);
     }
     past_three(s, second)
 }
@@ -111,7 +116,7 @@ fn lent_size(n: usize, which: u8) -> usize {
 
 // Puts out a result's length, where it is known before the call is made.
 fn say_length(who: u8, n: usize) {
-    if who == SIDES {
+    if (who == SIDES) | (who == IN_PLACE) {
         return;
     }
     say_size(n);
@@ -130,6 +135,7 @@ fn make_with(who: u8, s: &[u8], first: &[u8], lent: &mut [u8], head: usize) {
         TEXTS => say_head(writers::written(texts::write(op, s, lent)), head),
         SIDES => sides::call(s, first, lent),
         PACKETS => packets::call(s, first, lent, head),
+        IN_PLACE => in_place::call(op, s, first, lent, head),
         _ => say_head(values::head_of(op, s, first), head),
     }
 }

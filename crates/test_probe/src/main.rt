@@ -2,6 +2,7 @@
 // standard output, until the input ends or a call is not whole. The tests outside drive it; tests/PROBE.md has the protocol.
 mod calls;
 mod heads;
+mod in_place;
 mod packets;
 mod readers;
 mod rosters;

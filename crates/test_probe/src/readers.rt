@@ -73,7 +73,7 @@ fn comlynx_message(h: comlynx::Header, used: usize) -> [u8; HEAD] {
     ]
 }
 
-fn comlynx_head(answer: comlynx::Answer, used: usize) -> [u8; HEAD] {
+pub(crate) fn comlynx_head(answer: comlynx::Answer, used: usize) -> [u8; HEAD] {
     match answer {
         comlynx::Answer::Done => size_told(0, used),
         comlynx::Answer::Message(h) => comlynx_message(h, used),
@@ -125,7 +125,7 @@ fn eversolar_message(h: eversolar::Header, used: usize) -> [u8; HEAD] {
     ]
 }
 
-fn eversolar_head(answer: eversolar::Answer, used: usize) -> [u8; HEAD] {
+pub(crate) fn eversolar_head(answer: eversolar::Answer, used: usize) -> [u8; HEAD] {
     match answer {
         eversolar::Answer::Done => size_told(0, used),
         eversolar::Answer::Message(h) => eversolar_message(h, used),
@@ -177,7 +177,7 @@ fn fronius_message(h: fronius::Header, used: usize) -> [u8; HEAD] {
     ]
 }
 
-fn fronius_head(answer: fronius::Answer, used: usize) -> [u8; HEAD] {
+pub(crate) fn fronius_head(answer: fronius::Answer, used: usize) -> [u8; HEAD] {
     match answer {
         fronius::Answer::Done => size_told(0, used),
         fronius::Answer::Message(h) => fronius_message(h, used),

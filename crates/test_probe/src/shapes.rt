@@ -41,13 +41,15 @@ pub(crate) const SIDES: u8 = 8;
 
 pub(crate) const PACKETS: u8 = 9;
 
+pub(crate) const IN_PLACE: u8 = 10;
+
 // The bytes of a call and of its result.
 pub(crate) struct Shape {
     // who makes it
     pub(crate) who: u8,
     // how many bytes it has between its opcode and its lists
     pub(crate) front: usize,
-    // how many lists it has: none, one, two or five
+    // how many lists it has: none, one, two, three or five
     pub(crate) lists: u8,
     // how many bytes it has behind its first list
     pub(crate) between: usize,
@@ -124,8 +126,26 @@ fn value(front: usize, lists: u8, head: usize) -> Shape {
     }
 }
 
+// A call that reads over held bytes that it lends too, the first of its lists. It has a piece and a lent list, and its numbers stand in front.
+fn in_place(numbers: usize, head: usize) -> Shape {
+    Shape {
+        who: IN_PLACE,
+        front: numbers,
+        lists: 3,
+        between: 0,
+        head,
+        state: numbers,
+        lent: 3,
+    }
+}
+
 // A call that is not listed has more bytes than there are.
-pub(crate) fn shape_of(op: u8) -> Shape {
+fn unlisted() -> Shape {
+    value(FAR, 0, 0)
+}
+
+// The calls by the first hexadecimal digit of their opcodes, so that no function has to tell many apart.
+fn reading(op: u8) -> Shape {
     match op {
         0x01 => reader(COMLYNX, COMLYNX_STATE, COMLYNX_STATE, 10),
         0x02 => reader(EVERSOLAR, EVERSOLAR_STATE, EVERSOLAR_STATE, 11),
@@ -133,12 +153,33 @@ pub(crate) fn shape_of(op: u8) -> Shape {
         0x04 => fresh(COMLYNX_STATE),
         0x05 => fresh(EVERSOLAR_STATE),
         0x06 => fresh(FRONIUS_STATE),
+        0x07 => in_place(3, 10),
+        0x08 => in_place(5, 11),
+        0x09 => in_place(5, 8),
+        _ => unlisted(),
+    }
+}
+
+fn writing(op: u8) -> Shape {
+    match op {
         0x11 => written(WRITERS, 5, 2, 0),
         0x12 => written(WRITERS, 6, 2, 0),
         0x13 => written(WRITERS, 3, 2, 0),
+        _ => unlisted(),
+    }
+}
+
+fn comlynx_meaning(op: u8) -> Shape {
+    match op {
         0x21 => value(1, 1, 4),
         0x22 => value(2, 0, 4),
         0x23 => value(3, 0, 3),
+        _ => unlisted(),
+    }
+}
+
+fn eversolar_meaning(op: u8) -> Shape {
+    match op {
         0x31 => written(WRITERS, 1, 1, 0),
         0x32 => written(WRITERS, 2, 1, 0),
         0x33 => written(WRITERS, 0, 2, 1),
@@ -146,20 +187,51 @@ pub(crate) fn shape_of(op: u8) -> Shape {
         0x35 => value(9, 0, 9),
         0x36 => value(2, 0, 3),
         0x37 => value(2, 0, 3),
+        _ => unlisted(),
+    }
+}
+
+fn fronius_meaning(op: u8) -> Shape {
+    match op {
         0x41 => value(1, 1, 9),
         0x42 => value(2, 1, 10),
+        _ => unlisted(),
+    }
+}
+
+fn rostering(op: u8) -> Shape {
+    match op {
         0x51 => roster(2, 0, 2),
         0x52 => roster(1, 1, 1),
         0x53 => roster(2, 0, 2),
         0x54 => roster(2, 0, 2),
         0x55 => roster(1, 1, 1),
         0x56 => roster(2, 0, 2),
+        _ => unlisted(),
+    }
+}
+
+fn packing(op: u8) -> Shape {
+    match op {
         0x61 => value(0, 1, 5),
         0x62 => written(WRITERS, 1, 2, 0),
+        _ => unlisted(),
+    }
+}
+
+fn summing(op: u8) -> Shape {
+    match op {
         0x71 => value(0, 1, 3),
         0x72 => value(2, 1, 3),
         0x73 => value(2, 0, 3),
         0x74 => value(2, 1, 3),
+        0x75 => value(0, 2, 3),
+        _ => unlisted(),
+    }
+}
+
+fn listing(op: u8) -> Shape {
+    match op {
         0x81 => written(TEXTS, 0, 1, 0),
         0x82 => written(TEXTS, 1, 5, 0),
         0x83 => written(TEXTS, 2, 1, 0),
@@ -169,6 +241,24 @@ pub(crate) fn shape_of(op: u8) -> Shape {
         0x87 => reader(SIDES, PORTS_STATE + 1, PORTS_STATE, 0),
         0x88 => fresh(LISTING_STATE),
         0x89 => reader(PACKETS, LISTING_STATE + 1, LISTING_STATE, 6),
-        _ => value(FAR, 0, 0),
+        0x8a => written(TEXTS, 6, 2, 0),
+        0x8b => written(TEXTS, 7, 2, 0),
+        0x8c => written(TEXTS, 4, 2, 0),
+        _ => unlisted(),
+    }
+}
+
+pub(crate) fn shape_of(op: u8) -> Shape {
+    match op / 16 {
+        0 => reading(op),
+        1 => writing(op),
+        2 => comlynx_meaning(op),
+        3 => eversolar_meaning(op),
+        4 => fronius_meaning(op),
+        5 => rostering(op),
+        6 => packing(op),
+        7 => summing(op),
+        8 => listing(op),
+        _ => unlisted(),
     }
 }

@@ -4,6 +4,8 @@ use crate::heads::kind_told;
 use crate::heads::refused;
 use crate::heads::three_told;
 use crate::heads::told;
+use crate::wire::list_at;
+use crate::wire::past_list;
 use crate::wire::quad_at;
 use crate::wire::size_at;
 use crate::wire::word_at;
@@ -158,21 +160,45 @@ fn sent(state: u16) -> [u8; HEAD] {
     three_told(0, sent.low, sent.high, 0)
 }
 
-pub(crate) fn head_of(op: u8, s: &[u8], first: &[u8]) -> [u8; HEAD] {
+// The checksums, and the packet reader.
+fn of_wire(op: u8, s: &[u8], first: &[u8]) -> [u8; HEAD] {
     match op {
-        0x21 => meaning(byte_at(s, 1), first),
-        0x22 => address(word_at(s, 1)),
-        0x23 => word_of_address(byte_at(s, 1), byte_at(s, 2), byte_at(s, 3)),
-        0x34 => energy(byte_at(s, 1), byte_at(s, 2), first),
-        0x35 => wait(quad_at(s, 1), byte_at(s, 9)),
-        0x36 => sum(eversolar_words::word(byte_at(s, 1), byte_at(s, 2))),
-        0x37 => word_bytes(word_at(s, 1)),
-        0x41 => measured(first, byte_at(s, 1) == 1),
-        0x42 => reading(byte_at(s, 1), byte_at(s, 2), first),
         0x61 => packet(first),
         0x71 => sum(comlynx_checksum::of(first)),
         0x72 => sum(comlynx_checksum::more(word_at(s, 1), first)),
         0x73 => sent(word_at(s, 1)),
-        _ => sum(comlynx_checksum::of_first(first, size_at(s, 1))),
+        0x74 => sum(comlynx_checksum::of_first(first, size_at(s, 1))),
+        _ => sum(comlynx_checksum::of_both(first, list_at(s, past_list(s, 1)))),
     }
+}
+
+// What Eversolar data mean.
+fn of_eversolar(op: u8, s: &[u8], first: &[u8]) -> [u8; HEAD] {
+    match op {
+        0x34 => energy(byte_at(s, 1), byte_at(s, 2), first),
+        0x35 => wait(quad_at(s, 1), byte_at(s, 9)),
+        0x36 => sum(eversolar_words::word(byte_at(s, 1), byte_at(s, 2))),
+        _ => word_bytes(word_at(s, 1)),
+    }
+}
+
+// What data of the other two mean.
+fn of_others(op: u8, s: &[u8], first: &[u8]) -> [u8; HEAD] {
+    match op {
+        0x21 => meaning(byte_at(s, 1), first),
+        0x22 => address(word_at(s, 1)),
+        0x23 => word_of_address(byte_at(s, 1), byte_at(s, 2), byte_at(s, 3)),
+        0x41 => measured(first, byte_at(s, 1) == 1),
+        _ => reading(byte_at(s, 1), byte_at(s, 2), first),
+    }
+}
+
+pub(crate) fn head_of(op: u8, s: &[u8], first: &[u8]) -> [u8; HEAD] {
+    if op / 16 == 3 {
+        return of_eversolar(op, s, first);
+    }
+    if op / 16 < 5 {
+        return of_others(op, s, first);
+    }
+    of_wire(op, s, first)
 }

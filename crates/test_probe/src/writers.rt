@@ -26,23 +26,39 @@ fn to_one(which: u8) -> ToOne {
     }
 }
 
-pub(crate) fn write(op: u8, s: &[u8], first: &[u8], lent: &mut [u8]) -> Written {
+fn eversolar(s: &[u8], payload: &[u8], lent: &mut [u8]) -> Written {
+    eversolar::write(
+        byte_at(s, 1),
+        byte_at(s, 2),
+        byte_at(s, 3),
+        byte_at(s, 4),
+        byte_at(s, 5),
+        byte_at(s, 6),
+        payload,
+        lent,
+    )
+}
+
+fn frame(op: u8, s: &[u8], payload: &[u8], lent: &mut [u8]) -> Written {
     match op {
-        0x11 => comlynx::write(word_at(s, 1), word_at(s, 3), byte_at(s, 5), first, lent),
-        0x12 => eversolar::write(
-            byte_at(s, 1),
-            byte_at(s, 2),
-            byte_at(s, 3),
-            byte_at(s, 4),
-            byte_at(s, 5),
-            byte_at(s, 6),
-            first,
-            lent,
-        ),
-        0x13 => fronius::write(byte_at(s, 1), byte_at(s, 2), byte_at(s, 3), first, lent),
+        0x11 => comlynx::write(word_at(s, 1), word_at(s, 3), byte_at(s, 5), payload, lent),
+        0x12 => eversolar(s, payload, lent),
+        _ => fronius::write(byte_at(s, 1), byte_at(s, 2), byte_at(s, 3), payload, lent),
+    }
+}
+
+fn request(op: u8, s: &[u8], serial: &[u8], lent: &mut [u8]) -> Written {
+    match op {
         0x31 => eversolar_requests::ask_all(to_all(byte_at(s, 1)), lent),
         0x32 => eversolar_requests::ask_one(to_one(byte_at(s, 1)), byte_at(s, 2), lent),
-        0x33 => eversolar_requests::give_address(first, byte_at(s, past_list(s, 1)), lent),
+        _ => eversolar_requests::give_address(serial, byte_at(s, past_list(s, 1)), lent),
+    }
+}
+
+pub(crate) fn write(op: u8, s: &[u8], first: &[u8], lent: &mut [u8]) -> Written {
+    match op / 16 {
+        1 => frame(op, s, first, lent),
+        3 => request(op, s, first, lent),
         _ => uplink::write(byte_at(s, 1), first, lent),
     }
 }
