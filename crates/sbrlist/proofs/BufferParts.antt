@@ -1,9 +1,9 @@
 -- Parts of a buffer that is moved, read into and written.
 -- Assumes nothing.
 use Prim.Native.Nat.{ℕ, suc, _+_, _-_, _≤_, _<_}
-use mathlib.Core.Path.{_≡_, refl, sym, ap, ap₂, _∙_}
-use mathlib.Core.List.{List, [], _∷_, _++_, append-assoc}
-use lib.ListN.{length, take, drop, set, getD, length-take, length-drop, length-append}
+use mathlib.Core.Path.{_≡_, sym, ap, ap₂, _∙_}
+use mathlib.Core.List.{List, [], _∷_, _++_}
+use lib.ListN.{length, take, drop, set, getD, length-take, length-drop}
 use lib.Seq.{take-suc, drop-cons, append-snoc, set-at, getD-drop, getD-append-add, take-at}
 use Rattle.sbrlist.specs.Run.{part, movedFront}
 use native.Mathlib.Numerals.{add-one}

@@ -2,7 +2,7 @@
 -- Assumes nothing.
 use Prim.Native.Nat.{ℕ, _+_, _-_, _≤_, _<_}
 use mathlib.Core.Path.{_≡_, refl, sym, ap, _∙_, subst}
-use mathlib.Core.Bool.{Bool, true, false}
+use mathlib.Core.Bool.{Bool, false}
 use mathlib.Core.List.{List, [], _∷_, _++_, append-assoc}
 use lib.ListN.{length, take, drop, length-take, length-drop, length-append}
 use lib.Seq.{take-all, take-at, drop-drop, drop-append-le}
@@ -11,7 +11,7 @@ use native.Mathlib.Nat.{le-refl}
 use borrow.Rule.Slice.PartMut.{putMid}
 use Rattle.numbers.proofs.Alike.{zero-is-one}
 use Rattle.uplink.specs.Packet.{leadLength, pieceMax}
-use Rattle.listing.specs.Steps.{packetsMax, made, IsStep}
+use Rattle.listing.specs.Steps.{made, IsStep}
 use Rattle.listing.specs.Inside.{Put}
 use Rattle.listing.specs.declared.Listing.{Listing}
 use Rattle.listing.specs.declared.Listed.{Listed}

@@ -1,9 +1,9 @@
 -- A run goes on: by what `fill` took and `flush` printed, and by what `read_on` brought.
 -- Assumes nothing.
-use Prim.Native.Nat.{ℕ, _+_, _-_, _≤_, _<_}
-use mathlib.Core.Path.{_≡_, refl, sym, ap, ap₂, _∙_, subst}
-use mathlib.Core.Bool.{Bool, true, false}
-use mathlib.Core.List.{List, [], _∷_, _++_, append-assoc, append-nil}
+use Prim.Native.Nat.{ℕ, _+_, _-_, _≤_}
+use mathlib.Core.Path.{_≡_, sym, ap, ap₂, _∙_, subst}
+use mathlib.Core.Bool.{Bool, false}
+use mathlib.Core.List.{List, [], _++_, append-assoc, append-nil}
 use lib.ListN.{length, take, drop, take-append-drop}
 use lib.Seq.{take-at, take-add, drop-drop}
 use Rattle.stream.proofs.ListLaws.{drop-take}
@@ -16,7 +16,7 @@ use Rattle.listing.specs.declared.Listing.{Listing}
 use Rattle.listing.specs.declared.Listed.{Listed}
 use Rattle.listing.specs.declared.Heard.the-variants.{End}
 use Rattle.listing_whole.specs.Demands.{Prints}
-use Rattle.sbrlist.specs.Run.{part, Follows, IsReadOn, IsFilled, Handed, Came, at-first, and-then, Ran, Printed}
+use Rattle.sbrlist.specs.Run.{part, IsReadOn, IsFilled, Handed, Came, at-first, and-then, Ran, Printed}
 use Rattle.sbrlist.specs.declared.Window.{Window}
 
 -- ---- at first

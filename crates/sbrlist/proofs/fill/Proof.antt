@@ -2,19 +2,18 @@
 -- Assumes nothing.
 use native.Mathlib.Omega.{arith}
 use Prim.Native.Nat.{ℕ, _+_, _-_, _<_, _≤_}
-use mathlib.Core.Path.{_≡_, refl, sym, ap, _∙_, subst}
-use mathlib.Core.Bool.{Bool, true, false, not, _||_}
+use mathlib.Core.Path.{_≡_, refl, _∙_}
+use mathlib.Core.Bool.{Bool}
 use mathlib.Core.List.{List}
 use lib.ListN.{length, take, drop, length-take, length-drop}
 use Rattle.listing.specs.Steps.{packetsMax, roomLeast, IsStep}
 use Rattle.listing.specs.declared.Listing.{Listing}
 use Rattle.listing.specs.declared.Listed.{Listed}
-use Rattle.listing.specs.declared.Heard.the-variants.{Packet as Took, End}
+use Rattle.listing.specs.declared.Heard.the-variants.{Packet as Took}
 use Rattle.sbrlist.specs.Run.{Counts, IsFilled}
 use Rattle.sbrlist.proofs.CallsGoOn.{wrote-fits, Going, begins, going-then, known-then, filled-then, filled, out-then}
 use Rattle.numbers.proofs.Alike.{zero-is-one}
 use Rattle.listing_whole.proofs.Demands.{gets-on}
-use borrow.Author.Tests.{ltb-false}
 use borrow.Rule.Slice.PartMut.{same-len-mid}
 use borrow.Author.Needs.{needs}
 use Rattle.sbrlist.proofs.fill.Statement.{statement}

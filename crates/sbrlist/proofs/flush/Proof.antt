@@ -1,16 +1,11 @@
+-- `flush`: what is written is a front of the buffer.
+-- Assumes nothing.
 use native.Mathlib.Omega.{arith}
-use Prim.Native.Nat.{ℕ, _+_, _*_, _-_, _<_, _≤_}
-use mathlib.Core.Path.{_≡_, refl, sym, _∙_, ap}
-use mathlib.Core.Bool.{Bool, true, false}
-use lib.ListN.{length, getD, set, take, drop, length-take}
+use lib.ListN.{length-take}
 use Rattle.sbrlist.specs.Run.{handed}
 use borrow.Author.Needs.{needs}
 use Rattle.sbrlist.proofs.flush.Statement.{statement}
 use Rattle.sbrlist.proofs.flush.Tie as tie
-use Rattle.sbrlist.proofs.flush.Reads as reads
-use Rattle.sbrlist.proofs.flush.Lts as lts
-use Rattle.io.proofs.write_all.Reads as write-all-reads
-use Rattle.os.proofs.fail.Reads as fail-reads
 
 slice-aggregate-write-all : tie.Need-slice-aggregate-write-all
 slice-aggregate-write-all c = simp length-take (omega arith)

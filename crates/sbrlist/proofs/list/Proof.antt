@@ -1,16 +1,15 @@
 -- `list`: the run goes on by what `fill`, `flush` and `read_on` did, as far as it goes; `left` falls with each turn.
 -- Assumes nothing.
 use native.Mathlib.Omega.{arith}
-use Prim.Native.Nat.{ℕ, _+_, _-_, _<_, _≤_}
+use Prim.Native.Nat.{ℕ, _+_, _-_, _≤_}
 use mathlib.Core.Path.{_≡_, refl, sym, _∙_, ap, subst}
-use mathlib.Core.Bool.{Bool, true, false}
+use mathlib.Core.Bool.{Bool, false}
 use mathlib.Core.List.{List}
 use lib.ListN.{length, take, drop, length-append}
 use Rattle.numbers.proofs.Alike.{zero-is-one}
 use Rattle.listing.specs.declared.Listing.{Listing}
 use Rattle.listing.specs.declared.Listed.{Listed}
-use Rattle.listing.specs.declared.Heard.the-variants.{More, Packet as Took, End}
-use Rattle.listing.specs.Steps.{roomLeast, IsFresh}
+use Rattle.listing.specs.declared.Heard.the-variants.{End}
 use Rattle.sbrlist.specs.Run.{part, IsFilled, Handed, Ran, Printed}
 use Rattle.sbrlist.proofs.BufferParts.{length-part}
 use Rattle.sbrlist.proofs.ProgramEnds.{left, took-less, more-less}

@@ -1,8 +1,9 @@
+-- `read_on`: what was at hand is moved to the front, and the read does not touch it.
+-- Assumes nothing.
 use native.Mathlib.Omega.{arith}
-use Prim.Native.Nat.{ℕ, _+_, _*_, _-_, _<_, _≤_}
-use mathlib.Core.Path.{_≡_, refl, sym, _∙_, ap}
-use mathlib.Core.Bool.{Bool, true, false}
-use lib.ListN.{length, getD, set, take, drop, replicate}
+use Prim.Native.Nat.{_-_}
+use mathlib.Core.Path.{refl, _∙_, ap}
+use lib.ListN.{length, take}
 use denote.Ref.{now}
 use borrow.Rule.Slice.PartMut.{take-put}
 use borrow.Author.Tests.{eqb-true, eqb-false}
@@ -10,12 +11,6 @@ use Rattle.sbrlist.proofs.BufferParts.{front-moved}
 use borrow.Author.Needs.{needs}
 use Rattle.sbrlist.proofs.read_on.Statement.{statement}
 use Rattle.sbrlist.proofs.read_on.Tie as tie
-use Rattle.sbrlist.proofs.read_on.Reads as reads
-use Rattle.sbrlist.proofs.read_on.Lts as lts
-use Rattle.io.proofs.count.Reads as count-reads
-use Rattle.os.proofs.fail.Reads as fail-reads
-use Rattle.sbrlist.proofs.move_front.Reads as move-front-reads
-use Rattle.sbrlist.proofs.read_some.Reads as read-some-reads
 
 move-front-requires : tie.Need-move-front-requires
 move-front-requires c κs = search needs

@@ -1,17 +1,13 @@
+-- `read_some`: the turns are counted.
+-- Assumes nothing.
 use native.Mathlib.Omega.{arith}
-use Prim.Native.Nat.{ℕ, _+_, _*_, _-_, _<_, _≤_}
-use mathlib.Core.Path.{_≡_, refl, sym, _∙_, ap}
-use mathlib.Core.Bool.{Bool, true, false}
-use lib.ListN.{length, getD, set, take, drop, replicate}
+use mathlib.Core.Path.{_≡_}
+use lib.ListN.{length}
 use borrow.Author.Tests.{ltb-true}
 use Rattle.uplink.proofs.PacketTests.{both}
 use borrow.Author.Needs.{needs}
 use Rattle.sbrlist.proofs.read_some.Statement.{statement}
 use Rattle.sbrlist.proofs.read_some.Tie as tie
-use Rattle.sbrlist.proofs.read_some.Reads as reads
-use Rattle.sbrlist.proofs.read_some.Lts as lts
-use Rattle.libc.proofs.read.Reads as read-reads
-use Rattle.sbrlist.proofs.interrupted.Reads as interrupted-reads
 
 abbrev Inv-loop : tie.InvT-loop
 Inv-loop buffer₀ got₀ turns₀ buffer got turns = length buffer ≡ length buffer₀
