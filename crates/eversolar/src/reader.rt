@@ -48,7 +48,7 @@ const PAYLOAD_AT: usize = HEADER - MARKS;
 
 const LENGTH_AT: usize = PAYLOAD_AT - 1;
 
-// What the bytes read so far have led to. A field that the stage does not use is 0; what `held` has beyond `count` is left over and means nothing.
+// What the bytes read so far have led to. A field that the stage does not use is 0; what `held` has from `count` on is left over and means nothing.
 pub struct Reader {
     // the bytes since AA 55, as far as they have come
     pub held: [u8; HELD],
