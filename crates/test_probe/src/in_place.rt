@@ -106,12 +106,18 @@ fn length_of(head: usize, numbers: usize, held: usize, lent: usize) -> usize {
     )
 }
 
+// Lends the first `n` of the held bytes.
+fn lend(op: u8, s: &[u8], held: &mut [u8], n: usize, lent: &mut [u8], head: usize) {
+    let to = least(n, held.len());
+    make(op, s, &mut held[0..to], lent, head);
+}
+
 // The held bytes decide how long the result is, so that its length is put out here.
 pub(crate) fn call(op: u8, s: &[u8], first: &[u8], lent: &mut [u8], head: usize) {
     let mut held = [0u8; HELD_MAX];
     let n = least(first.len(), HELD_MAX);
     put(&mut held, 0, part(first, 0, n));
     say_size(length_of(head, numbers_of(op), n, lent.len()));
-    make(op, s, &mut held[0..n], lent, head);
+    lend(op, s, &mut held, n, lent, head);
     say_list(part(&held, 0, n));
 }
