@@ -14,8 +14,8 @@ use Rattle.answers.specs.Written.{Writes}
 use Rattle.answers.specs.declared.Refusal.the-variants.{TooLong, NoRoom}
 use Rattle.answers.specs.declared.Written.the-variants.{Done, Refused}
 use Rattle.answers.proofs.WriterPromise.{writes-too-long, writes-no-room}
-use Rattle.listing_text.specs.Lines.{field, Shown, tooLong, messageLine, IsMessage}
-use Rattle.listing_text.specs.Inside.{messageLength, refusedFor, start, beforeCode, Put}
+use Rattle.listing_text.specs.Lines.{field, fieldMax, Shown, tooLong, messageLine, IsMessage}
+use Rattle.listing_text.specs.Inside.{lineLength, messageLength, refusedFor, start, beforeCode, Put}
 use Rattle.listing_text.proofs.FieldLengths.{message-length, message-text}
 use Rattle.listing_text.proofs.PutsJoin.{then, written}
 
@@ -73,11 +73,11 @@ message-refused port m lent = go (tooLong m) (ltb (length lent) (messageLength p
     go false true e h x = rw e at (message-no-room port m lent e h)
     go false false e h x = never x refl
 
-pub second : (t u : Bool) → (t || u) ≡ false → u ≡ false
+second : (t u : Bool) → (t || u) ≡ false → u ≡ false
 second true u x = never refl x
 second false u x = x
 
-pub first : (t u : Bool) → (t || u) ≡ false → t ≡ false
+first : (t u : Bool) → (t || u) ≡ false → t ≡ false
 first true u x = x
 first false u x = refl
 
@@ -87,3 +87,8 @@ message-fits port m lent later r x put =
     let long = tooLong m in
     let short = ltb (length lent) (messageLength port m) in
     message-written port m lent later r (first long short x) (second long short x) put
+
+-- what is not refused fits
+pub has-room : (port three n room : ℕ) {told : Bool} → told ≡ (ltb fieldMax n || ltb room (lineLength port three n)) → told ≡ false → lineLength port three n ≤ room
+has-room port three n room said is =
+    ltb-false room (lineLength port three n) (second (ltb fieldMax n) (ltb room (lineLength port three n)) (sym said ∙ is))

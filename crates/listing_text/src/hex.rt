@@ -115,17 +115,26 @@ pub(crate) fn put_none(after: u8, lent: &mut [u8], at: usize) -> usize
     at + 2
 }
 
-// The field of one byte, and a space: no loop, and no test of a length.
+// The two digits of a byte: no loop, and no test of a length.
+fn put_byte(b: u8, lent: &mut [u8], at: usize) -> usize
+    requires { ⌜ at + 1 < length (now lent) ⌝ }
+    ensures { λ r. ⌜ Put (now (lent .entry)) at (hex (b ∷ [])) r (now (lent .exit)) ⌝ }
+{
+    let t = digits();
+    lent[at] = high_of(&t, b);
+    lent[at + 1] = low_of(&t, b);
+    at + 2
+}
+
+// The field of one byte, and a space.
 pub(crate) fn put_one(a: u8, lent: &mut [u8], at: usize) -> usize
     requires { ⌜ at + 2 < length (now lent) ⌝ }
     ensures { λ r. ⌜ Put (now (lent .entry)) at (field (a ∷ []) ++ (32 ∷ [])) r (now (lent .exit)) ⌝ }
     ensures { λ r. ⌜ r ≡ at + 3 ⌝ }
 {
-    let t = digits();
-    lent[at] = t[(a / 16) as usize];
-    lent[at + 1] = t[(a % 16) as usize];
-    lent[at + 2] = b' ';
-    at + 3
+    let p = put_byte(a, lent, at);
+    lent[p] = b' ';
+    p + 1
 }
 
 // The field of two bytes, and a space.
@@ -134,13 +143,8 @@ pub(crate) fn put_two(a: u8, b: u8, lent: &mut [u8], at: usize) -> usize
     ensures { λ r. ⌜ Put (now (lent .entry)) at (field (a ∷ b ∷ []) ++ (32 ∷ [])) r (now (lent .exit)) ⌝ }
     ensures { λ r. ⌜ r ≡ at + 5 ⌝ }
 {
-    let t = digits();
-    lent[at] = t[(a / 16) as usize];
-    lent[at + 1] = t[(a % 16) as usize];
-    lent[at + 2] = t[(b / 16) as usize];
-    lent[at + 3] = t[(b % 16) as usize];
-    lent[at + 4] = b' ';
-    at + 5
+    let p = put_byte(a, lent, at);
+    put_one(b, lent, p)
 }
 
 // The field, and the byte that ends it.
