@@ -14,8 +14,8 @@ PAIRS = {
 
 NAMES = {"comlynx": "ComLynx", "eversolar": "Eversolar", "fronius": "Fronius"}
 PIECES = (1, 16, 240, 65536)
-# The limits: 1.0 where that is asked for, which is at 240 bytes a piece but for frames with no data, and for the listing of a clean day of all ports.
-# Elsewhere what it comes to today, rounded up, so that a growth is noticed.
+# The limits: 1.0 where that is asked for, which is by `step` at 240 bytes a piece but for frames with no data. Elsewhere what it comes to today, rounded
+# up, so that a growth is noticed.
 READING = {
     ("comlynx", 10): (3.5, 1.3, 1.0, 0.9),
     ("comlynx", 66): (3.5, 1.1, 1.0, 0.6),
@@ -23,21 +23,21 @@ READING = {
     ("eversolar", 0): (3.6, 1.6, 1.4, 1.3),
     ("eversolar", 66): (3.4, 0.8, 1.0, 0.4),
     ("eversolar", 255): (3.4, 0.7, 1.0, 0.2),
-    ("fronius", 0): (3.5, 1.6, 1.6, 1.6),
-    ("fronius", 66): (3.8, 0.9, 1.0, 0.4),
-    ("fronius", 127): (3.8, 0.9, 1.0, 0.3),
+    ("fronius", 0): (3.2, 1.0, 1.0, 1.0),
+    ("fronius", 66): (3.4, 0.8, 1.0, 0.4),
+    ("fronius", 127): (3.4, 0.8, 1.0, 0.3),
 }
-# by `step_in_place`: no limit is asked for but that of reading by `step`
+# by `step_in_place`
 IN_PLACE = {
-    ("comlynx", 10): (2.0, 1.1, 1.0, 0.9),
-    ("comlynx", 66): (2.0, 1.0, 1.0, 0.6),
-    ("comlynx", 255): (2.0, 0.9, 1.0, 0.4),
-    ("eversolar", 0): (2.0, 1.2, 1.0, 1.0),
-    ("eversolar", 66): (2.0, 0.7, 1.0, 0.4),
-    ("eversolar", 255): (2.0, 0.6, 1.0, 0.2),
-    ("fronius", 0): (2.0, 1.2, 1.0, 1.0),
-    ("fronius", 66): (2.0, 0.8, 1.0, 0.4),
-    ("fronius", 127): (2.0, 0.7, 1.0, 0.3),
+    ("comlynx", 10): (1.4, 0.9, 0.7, 0.7),
+    ("comlynx", 66): (1.4, 0.8, 0.5, 0.5),
+    ("comlynx", 255): (1.4, 0.7, 0.4, 0.4),
+    ("eversolar", 0): (1.6, 1.0, 0.9, 0.9),
+    ("eversolar", 66): (1.5, 0.5, 0.4, 0.3),
+    ("eversolar", 255): (1.5, 0.4, 0.2, 0.2),
+    ("fronius", 0): (1.7, 0.7, 0.7, 0.7),
+    ("fronius", 66): (1.8, 0.6, 0.4, 0.3),
+    ("fronius", 127): (1.8, 0.6, 0.3, 0.3),
 }
 WRITING = {
     ("comlynx", 10): 0.9,
@@ -53,12 +53,12 @@ WRITING = {
 CHECKSUM = {16: 1.5, 255: 1.1, 4096: 1.1}
 GIVING = {0: 1.1, 127: 1.1, 254: 1.1}
 DAYS = {  # ports, one line byte in how many is changed, packets, limit
-    "clean": (frames.PORTS, 0, 512, 1.0),
-    "clean, a quarter of it": (frames.PORTS, 0, 128, 1.0),
-    "damaged": (frames.PORTS, 60, 512, 1.1),
-    "clean, ComLynx alone": ((1,), 0, 128, 0.8),
-    "clean, Eversolar alone": ((2,), 0, 128, 0.6),
-    "clean, Fronius alone": ((3,), 0, 128, 1.8),
+    "clean": (frames.PORTS, 0, 512, 0.7),
+    "clean, a quarter of it": (frames.PORTS, 0, 128, 0.7),
+    "damaged": (frames.PORTS, 60, 512, 0.7),
+    "clean, ComLynx alone": ((1,), 0, 128, 0.7),
+    "clean, Eversolar alone": ((2,), 0, 128, 0.5),
+    "clean, Fronius alone": ((3,), 0, 128, 0.9),
 }
 
 
