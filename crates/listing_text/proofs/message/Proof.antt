@@ -27,13 +27,20 @@ lengths : (c : tie.Else1)
     → (length (c .before .before .before .before .before .before .before .args .from .now) ≤ fieldMax) × (length (c .before .before .before .before .before .before .before .args .to .now) ≤ fieldMax) × (length (c .before .before .before .before .before .before .before .args .code .now) ≤ fieldMax) × (length (c .before .before .before .before .before .before .before .args .payload .now) ≤ fieldMax)
 lengths c = within (given (c .before .before .before .before .before .before .before)) (test-long (c .before) false (c .if1 .left))
 
+-- where the data are not too long, what is told of both tests is told of the room
+of-room : (said b : Bool) (room port three told n : ℕ) → told ≡ three → n ≤ fieldMax → said ≡ (ltb fieldMax n || ltb room (lineLength port told n)) → said ≡ b
+    → ltb room (lineLength port three n) ≡ b
+of-room said b room port three told n same fits tests is =
+    ap (λ (k : ℕ). ltb room (lineLength port k n)) (sym same)
+    ∙ ap (λ (long : Bool). long || ltb room (lineLength port told n)) (sym (le-ltb fieldMax n fits))
+    ∙ sym tests ∙ is
+
 test-room : (c : tie.After-is-refused) (b : Bool) → c .is-refused .result ≡ b
     → ltb (length (c .before .before .before .before .before .before .before .before .before .args .lent .now)) (messageLength (c .before .before .before .before .before .before .before .before .before .args .port) (given (c .before .before .before .before .before .before .before .before .before))) ≡ b
 test-room c b is =
     let a = c .before .before .before .before .before .before .before .before .before .args in
-    ap (λ (three : ℕ). ltb (length (a .lent .now)) (lineLength (a .port) three (length (a .payload .now)))) (sym (c .before .widths .ensures .0))
-    ∙ ap (λ (long : Bool). long || ltb (length (a .lent .now)) (lineLength (a .port) (c .before .widths .result) (length (a .payload .now)))) (sym (le-ltb fieldMax (length (a .payload .now)) (lengths (c .before .before) .3)))
-    ∙ sym (c .is-refused .ensures) ∙ is
+    of-room (c .is-refused .result) b (length (a .lent .now)) (a .port) _ (c .before .widths .result) (length (a .payload .now))
+    (c .before .widths .ensures .0) (lengths (c .before .before) .3) (c .is-refused .ensures) is
 
 too-long-requires : tie.Need-too-long-requires
 too-long-requires c κs = search needs

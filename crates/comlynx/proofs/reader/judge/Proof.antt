@@ -1,17 +1,26 @@
-use Rattle.comlynx_checksum.specs.Checksum.{checksumOf}
+use Rattle.comlynx_checksum.specs.Checksum.{checksumOf, IsSentOf}
+use Rattle.comlynx_checksum.specs.declared.Sent.{Sent}
 use Rattle.stream.specs.Event.{Event, gives, outcome}
 use Rattle.stream.specs.Call.{retold}
-use Rattle.comlynx.specs.Wire.{Message}
+use Rattle.comlynx.specs.Wire.{Message, bodyMax}
 use Rattle.comlynx.specs.Reader.{header}
-use Rattle.comlynx.specs.Inside.{eventOf}
+use Rattle.comlynx.specs.Inside.{eventOf, JudgedAs, Judges}
+use Rattle.comlynx.specs.declared.reader.Answer.{Answer}
 use Rattle.comlynx.specs.declared.reader.End.{End}
+use Rattle.comlynx.specs.declared.reader.End.the-variants.{Closed}
 use Rattle.comlynx.proofs.JudgedIsDelivered.{closes}
-use Prim.Native.Nat.{ℕ}
-use mathlib.Core.Path.{sym, _∙_, ap}
-use lib.ListN.{take}
+use Prim.Native.Nat.{ℕ, _-_}
+use mathlib.Core.Path.{_≡_, sym, _∙_, ap}
+use mathlib.Core.List.{List}
+use lib.ListN.{length, take}
 use borrow.Author.Needs.{needs}
 use Rattle.comlynx.proofs.reader.judge.Statement.{statement}
 use Rattle.comlynx.proofs.reader.judge.Tie as tie
+
+-- a stretch that closed is judged by what is due
+judged-closed : (r : Answer) (n sum : ℕ) (held : List ℕ) (d : Sent) → length held ≡ bodyMax → sum ≡ checksumOf (take (n - 2) held) → IsSentOf sum d
+    → Judges n (d .low) (d .high) held r → JudgedAs (eventOf (Closed n) held) r
+judged-closed r n sum held d full e s j = j ∙ ap (λ (x : Event Message). retold header (gives x)) (sym (closes n sum held d full e s))
 
 enum-told : tie.Need-enum-told
 enum-told c = search needs
@@ -37,7 +46,6 @@ enum-told-2 c = search needs
 returns : tie.Need-returns
 returns c = ap (λ (e : End). retold header (outcome (eventOf e (c .before .before .before .args .held .now)))) (sym (c .enum-told .given .1))
 
--- a stretch that closed is judged by what is due
 returns-2 : tie.Need-returns-2
 returns-2 c =
     let d = c .before .sent-of in
@@ -47,8 +55,7 @@ returns-2 c =
     let n = e .end .given .0 .0 in
     let held = s .args .held .now in
     let sum = q .of-first .ensures ∙ ap (λ (k : ℕ). checksumOf (take k held)) (q .before .covered .ensures) in
-    c .judge-frame .ensures
-    ∙ ap (λ (x : Event Message). retold header (gives x)) (sym (closes n (q .of-first .result) held (d .result) (s .pre) sum (d .ensures)))
+    judged-closed (c .judge-frame .result) n (q .of-first .result) held (d .result) (s .pre) sum (d .ensures) (c .judge-frame .ensures)
     ∙ ap (λ (x : End). retold header (outcome (eventOf x held))) (sym (e .end .given .1))
 
 returns-3 : tie.Need-returns-3
