@@ -1,20 +1,36 @@
-//! Calls of `test_probe`: sweeps over every limit, and random ones.
+//! Calls of the programs `test_probe_..`: sweeps over every limit, and random ones.
 
 use crate::in_place_calls::{in_place_chain, in_place_sweep, random_in_place, too_many_held};
 use crate::listing_calls::{
-    line_sweep, listing_chain, listing_sweep, longest_call, port_chain, port_sweep, random_line,
+    line_sweep, listing_chain, listing_sweep, port_chain, port_sweep, random_line,
     random_listing, random_port, random_word, word_sweep,
 };
 use crate::random::Random;
 use crate::streams::{self, Family, FAMILIES};
 use right::{number, packet, probe};
 
-/// The generator of a session's last call, where that one has no result.
-pub const ENDS_EARLY: &str = "session that ends early";
+/// The generators of a session's last call, where that one has no result, by the program.
+const END_EARLY: [&str; 3] = [
+    "session of the readers that ends early",
+    "session of the listing that ends early",
+    "session of the other calls that ends early",
+];
 
 pub struct Call {
     pub generator: &'static str,
     pub bytes: Vec<u8>,
+}
+
+impl Call {
+    pub fn ends_early(&self) -> bool {
+        END_EARLY.contains(&self.generator)
+    }
+
+    /// Which program it is for: its opcode says so, but for what ends a session.
+    pub fn program(&self) -> usize {
+        let ended = END_EARLY.iter().position(|&generator| generator == self.generator);
+        ended.unwrap_or_else(|| probe::program_of(self.bytes[0]))
+    }
 }
 
 /// A call that grows argument after argument.
@@ -993,37 +1009,42 @@ pub fn random_calls(random: &mut Random, count: usize) -> Vec<Call> {
     calls
 }
 
-/// What ends a session: a call that is not all there, an opcode that is not listed, or more bytes
-/// than a list or a call may have, and then calls that must get no answer.
-pub fn broken_ending(random: &mut Random) -> Call {
-    let mut ending = Vec::new();
-    match random.between(0, 4) {
-        0 => {
-            ending.push(random.pick(&[
-                0x00, 0x0A, 0x10, 0x14, 0x24, 0x30, 0x38, 0x43, 0x50, 0x57, 0x63, 0x70, 0x76, 0x80,
-                0x8D, 0xFF,
-            ]));
-            ending.extend(op(0x73).w(random.word()).bytes);
-        }
-        1 => {
-            let length = random.pick(&[16_385, 16_386, 32_768, 65_535]);
-            ending.extend(op(0x71).list(&random.bytes(length)).bytes);
-            ending.extend(op(0x73).w(random.word()).bytes);
-        }
-        2 => {
-            ending.extend(too_many_held(random).bytes);
-            ending.extend(op(0x73).w(random.word()).bytes);
-        }
-        3 => {
-            ending.extend(longest_call(true, random).bytes);
-            ending.extend(op(0x73).w(random.word()).bytes);
-        }
-        _ => {
-            let mut whole = random_calls(random, 1).remove(0).bytes;
-            let cut = random.between(0, whole.len() - 1);
-            whole.truncate(cut);
-            ending.extend(whole);
+/// A random call of one of the programs.
+fn call_of(program: usize, random: &mut Random) -> Vec<u8> {
+    loop {
+        let call = random_calls(random, 1).remove(0);
+        if call.program() == program {
+            return call.bytes;
         }
     }
-    Call { generator: ENDS_EARLY, bytes: ending }
+}
+
+/// A call of one of the programs with more bytes than a list may have.
+fn too_long_a_list(program: usize, random: &mut Random) -> Vec<u8> {
+    if program == 0 {
+        return too_many_held(random).bytes;
+    }
+    let length = random.pick(&[16_385, 16_386, 32_768, 65_535]);
+    op([0x07, 0x81, 0x71][program]).list(&random.bytes(length)).bytes
+}
+
+/// What ends a session of one of the programs: an opcode that is not listed, a call of another
+/// program, or more bytes than a list may have, and then a call that must get no answer; or a call
+/// that is not all there.
+pub fn broken_ending(program: usize, random: &mut Random) -> Call {
+    let broken = match random.between(0, 3) {
+        0 => vec![random.pick(&[
+            0x00, 0x0A, 0x10, 0x14, 0x24, 0x30, 0x38, 0x43, 0x50, 0x57, 0x63, 0x70, 0x76, 0x80,
+            0x82, 0x8D, 0xFF,
+        ])],
+        1 => call_of((program + random.between(1, 2)) % 3, random),
+        2 => too_long_a_list(program, random),
+        _ => {
+            let mut whole = call_of(program, random);
+            whole.truncate(random.between(0, whole.len() - 1));
+            return Call { generator: END_EARLY[program], bytes: whole };
+        }
+    };
+    let bytes = [broken, call_of(program, random)].concat();
+    Call { generator: END_EARLY[program], bytes }
 }

@@ -18,12 +18,21 @@ use std::process::ExitCode;
 use std::sync::atomic::{AtomicBool, AtomicUsize, Ordering};
 use std::sync::Mutex;
 
-/// The model that is compared: a session of `test_probe` and a run of `sbrlist`.
+/// The model that is compared: a session of one of the programs `test_probe_..`, and a run of
+/// `sbrlist`.
 #[derive(Clone, Copy)]
 pub struct Model {
-    pub session: fn(&[u8]) -> Vec<u8>,
+    pub session: fn(usize, &[u8]) -> Vec<u8>,
     pub listing: fn(&[u8]) -> Vec<u8>,
 }
+
+/// The programs that make calls, as `probe::program_of` counts them: what may name another command
+/// for each, and where it is.
+const PROBES: [(&str, &str); 3] = [
+    ("PROBE_READERS", "bin/test_probe_readers"),
+    ("PROBE_LISTING", "bin/test_probe_listing"),
+    ("PROBE_CALLS", "bin/test_probe_calls"),
+];
 
 /// How much of what is run.
 struct Amount {
@@ -53,7 +62,7 @@ enum Job {
 /// What a run was asked for.
 struct Run {
     model: Model,
-    test_probe: Program,
+    probes: [Program; 3],
     sbrlist: Program,
     seed: u64,
     at_once: usize,
@@ -97,7 +106,7 @@ pub fn run(model: Model, arguments: impl Iterator<Item = String>) -> ExitCode {
 fn asked_for(model: Model, mut arguments: impl Iterator<Item = String>) -> Result<Run, String> {
     let mut run = Run {
         model,
-        test_probe: Program::of_environment("PROBE", "bin/test_probe"),
+        probes: PROBES.map(|(variable, default)| Program::of_environment(variable, default)),
         sbrlist: Program::of_environment("SBRLIST", "bin/sbrlist"),
         seed: 1,
         at_once: 2,
@@ -109,7 +118,11 @@ fn asked_for(model: Model, mut arguments: impl Iterator<Item = String>) -> Resul
             "--long" => run.amount = LONG,
             "--seed" => run.seed = seed_of(arguments.next())?,
             "--against-model" => {
-                run.test_probe = Program::Model(right::probe::session);
+                run.probes = [
+                    Program::Model(|input| right::probe::session(0, input)),
+                    Program::Model(|input| right::probe::session(1, input)),
+                    Program::Model(|input| right::probe::session(2, input)),
+                ];
                 run.sbrlist = Program::Model(right::listing::listing);
                 run.at_once = 1;
             }
@@ -146,7 +159,7 @@ fn jobs(run: &Run, sweeps: usize) -> Vec<Job> {
     let two_ways = (0..4).map(Job::TwoWays);
     let known: Vec<Job> =
         [Job::KnownCalls, Job::KnownListings].into_iter().chain(two_ways).collect();
-    let mut jobs = match run.test_probe {
+    let mut jobs = match run.sbrlist {
         Program::Model(_) => [jobs, known].concat(),
         Program::Command(_) => [known, jobs].concat(),
     };
@@ -196,7 +209,7 @@ fn do_job(run: &Run, job: Job, sweeps: &[&[Call]], counts: &Counts) -> Result<()
         Job::BrokenSession(case) => {
             let mut random = Random::of(run.seed, 2, case as u64);
             let mut calls = calls::random_calls(&mut random, 5);
-            calls.push(calls::broken_ending(&mut random));
+            calls.push(calls::broken_ending(case % PROBES.len(), &mut random));
             compare_session(run, &format!("broken session {case}"), &calls, counts)
         }
         Job::Listings(job) => (0..LISTINGS_IN_A_JOB).try_for_each(|order| {
@@ -254,12 +267,17 @@ fn two_ways(run: &Run, which: usize) -> Result<(), String> {
     })
 }
 
-// ---- sessions of test_probe ----
+// ---- sessions of the programs test_probe_.. ----
 
 /// The model on an input; a model that stops is no agreement.
 fn model_output(model: fn(&[u8]) -> Vec<u8>, input: &[u8]) -> Result<Vec<u8>, String> {
     let input = input.to_vec();
     catch_unwind(move || model(&input)).map_err(|_| "the model stopped".to_string())
+}
+
+fn model_session(run: &Run, program: usize, input: &[u8]) -> Result<Vec<u8>, String> {
+    let (session, input) = (run.model.session, input.to_vec());
+    catch_unwind(move || session(program, &input)).map_err(|_| "the model stopped".to_string())
 }
 
 /// The lists of an output; what is left where the last is not whole.
@@ -276,25 +294,47 @@ fn results_of(mut output: &[u8]) -> (Vec<&[u8]>, &[u8]) {
     (results, output)
 }
 
+/// Each call is made by the program that its opcode names, and keeps its place in the report.
 fn compare_session(run: &Run, case: &str, calls: &[Call], counts: &Counts) -> Result<(), String> {
-    let input: Vec<u8> = calls.iter().flat_map(|call| call.bytes.iter().copied()).collect();
-    let label = |call: usize| {
-        let generator = calls.get(call).map_or("beyond the last call", |call| call.generator);
-        format!("case {case} call {call}, generator \"{generator}\"")
+    (0..PROBES.len()).try_for_each(|program| {
+        let own = calls.iter().enumerate().filter(|(_, call)| call.program() == program);
+        let own: Vec<(usize, &Call)> = own.collect();
+        if own.is_empty() {
+            return Ok(());
+        }
+        compare_calls(run, program, case, &own, counts)
+    })
+}
+
+/// The calls of one program, in their order.
+fn compare_calls(
+    run: &Run,
+    program: usize,
+    case: &str,
+    calls: &[(usize, &Call)],
+    counts: &Counts,
+) -> Result<(), String> {
+    let input: Vec<u8> = calls.iter().flat_map(|(_, call)| call.bytes.iter().copied()).collect();
+    let label = |at: usize| match calls.get(at) {
+        Some((place, call)) => {
+            format!("case {case} call {place}, generator \"{}\"", call.generator)
+        }
+        None => format!("case {case}, generator \"beyond the last call\""),
     };
-    let expected = model_output(run.model.session, &input)
-        .map_err(|wrong| model_stopped(run, case, calls, &wrong))?;
-    let given = run.test_probe.output(&input).map_err(|wrong| format!("{}: {wrong}", label(0)))?;
+    let expected = model_session(run, program, &input)
+        .map_err(|wrong| model_stopped(run, program, case, calls, &wrong))?;
+    let given =
+        run.probes[program].output(&input).map_err(|wrong| format!("{}: {wrong}", label(0)))?;
     let ((expected, _), (given, rest)) = (results_of(&expected), results_of(&given));
-    let answered = calls.iter().filter(|call| call.generator != calls::ENDS_EARLY).count();
+    let answered = calls.iter().filter(|(_, call)| !call.ends_early()).count();
     if expected.len() != answered {
         return Err(format!("{}: the model has no result", label(expected.len())));
     }
-    for call in 0..expected.len().max(given.len()) {
-        if expected.get(call) != given.get(call) {
-            let bytes = calls.get(call).map_or(&[][..], |call| &call.bytes);
-            let report = both_results(bytes, expected.get(call), given.get(call));
-            return Err(format!("{}\n{report}", label(call)));
+    for at in 0..expected.len().max(given.len()) {
+        if expected.get(at) != given.get(at) {
+            let bytes = calls.get(at).map_or(&[][..], |(_, call)| &call.bytes);
+            let report = both_results(bytes, expected.get(at), given.get(at));
+            return Err(format!("{}\n{report}", label(at)));
         }
         counts.calls.fetch_add(1, Ordering::Relaxed);
     }
@@ -305,9 +345,15 @@ fn compare_session(run: &Run, case: &str, calls: &[Call], counts: &Counts) -> Re
 }
 
 /// Which call the model stopped at.
-fn model_stopped(run: &Run, case: &str, calls: &[Call], wrong: &str) -> String {
-    let stops = |call: &&Call| model_output(run.model.session, &call.bytes).is_err();
-    let generator = calls.iter().find(stops).map_or("", |call| call.generator);
+fn model_stopped(
+    run: &Run,
+    program: usize,
+    case: &str,
+    calls: &[(usize, &Call)],
+    wrong: &str,
+) -> String {
+    let stops = |(_, call): &&(usize, &Call)| model_session(run, program, &call.bytes).is_err();
+    let generator = calls.iter().find(stops).map_or("", |(_, call)| call.generator);
     format!("case {case}, generator \"{generator}\": {wrong}")
 }
 
@@ -331,9 +377,10 @@ fn both_results(call: &[u8], expected: Option<&&[u8]>, given: Option<&&[u8]>) ->
 fn known_calls(run: &Run, counts: &Counts) -> Result<(), String> {
     for known in known::calls() {
         let expected = right::probe::as_list(&known.result);
+        let program = right::probe::program_of(known.call[0]);
         let sides = [
-            ("model", model_output(run.model.session, &known.call)),
-            ("program", run.test_probe.output(&known.call)),
+            ("model", model_session(run, program, &known.call)),
+            ("program", run.probes[program].output(&known.call)),
         ];
         for (side, given) in sides {
             if given.as_ref() != Ok(&expected) {

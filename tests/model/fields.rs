@@ -1,4 +1,4 @@
-//! Results of `test_probe` in words, for the report of a disagreement.
+//! Results of the programs `test_probe_..` in words, for the report of a disagreement.
 
 /// The fields of PORTS.
 const PORTS: [(&str, usize); 11] = [
@@ -112,7 +112,7 @@ fn other_fields_of(op: u8) -> &'static [(&'static str, usize)] {
             ("held", 0),
             ("lent", 0),
         ],
-        0x11..=0x13 | 0x31..=0x33 | 0x62 | 0x81..=0x85 | 0x8A..=0x8C => {
+        0x11..=0x13 | 0x31..=0x33 | 0x62 | 0x81 | 0x83..=0x85 | 0x8A..=0x8C => {
             &[("length", 2), ("lent", 0)]
         }
         0x21 => &[("kind", 1), ("id", 1), ("code", 1)],

@@ -156,8 +156,7 @@ fn calls_of_l1() -> Vec<KnownCall> {
     let ended = [0, 3, 0, 0, END.len() as u8, 0];
     vec![
         line("L1, header", &[0x81], HEADER),
-        line("L1, message", &[&[0x82, 1][..], &message, &list(&[])].concat(), LINE),
-        line("L1, message, fixed", &bytes("8A 01 00 02 11 FF 15 00 00"), LINE),
+        line("L1, message", &bytes("8A 01 00 02 11 FF 15 00 00"), LINE),
         line("P3, message", &bytes("8B 02 01 00 00 00 10 00 00 00"), "2 1 0100 0000 1000 -\n"),
         line("P5, message", &bytes("8C 03 01 01 10 03 00 04 D2 00"), "3 1 - 0101 10 04D200\n"),
         line("a damage", &[0x83, 3, 6], "3 6\n"),

@@ -74,13 +74,12 @@ pub fn end(messages: u64, damages: u64) -> String {
     format!("end {messages} {damages}\n")
 }
 
-/// No message has a field of more bytes.
-const LONGEST_FIELD: usize = 255;
+/// No message has more bytes of payload.
+const LONGEST_PAYLOAD: usize = 255;
 
 /// "Writers test 8, then 9".
 pub fn write_message(port: u8, fields: &Fields, lent: &mut [u8]) -> Written {
-    let lists = [&fields.from, &fields.to, &fields.code, &fields.payload];
-    if lists.iter().any(|list| list.len() > LONGEST_FIELD) {
+    if fields.payload.len() > LONGEST_PAYLOAD {
         return not_written(number::TOO_LONG);
     }
     hand_over(message(port, fields).as_bytes(), lent)

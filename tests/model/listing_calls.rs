@@ -11,7 +11,7 @@ use right::{lines, number, packet, probe};
 // ---- lines ----
 
 const LINES: &str = "lines of the listing";
-const FIXED_LINES: &str = "lines of messages with fields of fixed lengths";
+const MESSAGE_LINES: &str = "lines of messages";
 const LINE_ROOMS: &str = "lines of the listing, every lent length";
 
 fn header_line() -> Making {
@@ -30,19 +30,11 @@ fn end_line(messages: u64, damages: u64) -> Making {
     op(0x85).q(messages).q(damages)
 }
 
-/// A message's line with fields of these lengths, and how many bytes the line has.
-fn message_line(port: u8, lengths: [usize; 4], random: &mut Random) -> (Making, usize) {
-    let [from, to, code, payload] = lengths.map(|length| random.content(length));
-    let making = op(0x82).b(port).list(&from).list(&to).list(&code).list(&payload);
-    let exact = lines::message(port, &lines::Fields { from, to, code, payload }).len();
-    (making, exact)
-}
-
-/// The opcodes of a message's line that fix the lengths of from, to and code, and those lengths.
+/// The opcodes of a message's line, and the lengths of from, to and code that each fixes.
 const FIXED: [(u8, [usize; 3]); 3] = [(0x8A, [2, 2, 1]), (0x8B, [2, 2, 2]), (0x8C, [0, 2, 1])];
 
-/// Such a line, and how many bytes it has.
-fn fixed_line(which: usize, port: u8, payload: usize, random: &mut Random) -> (Making, usize) {
+/// A message's line, and how many bytes it has.
+fn message_line(which: usize, port: u8, payload: usize, random: &mut Random) -> (Making, usize) {
     let (opcode, lengths) = FIXED[which];
     let [from, to, code] = lengths.map(|length| random.specials(length));
     let payload = random.content(payload);
@@ -51,7 +43,7 @@ fn fixed_line(which: usize, port: u8, payload: usize, random: &mut Random) -> (M
     (making, exact)
 }
 
-/// How many bytes a line has that no length of a field refuses.
+/// How many bytes a line has that nothing but the room refuses.
 fn exact_length(line: &Making) -> usize {
     let result = probe::answer(&line.again().list(&[0; 100]).bytes).expect("a whole call");
     usize::from(result[1]) + 256 * usize::from(result[2])
@@ -77,7 +69,6 @@ fn counts_of_digits() -> Vec<u64> {
 }
 
 const BYTES_OF_DIGITS: [u8; 11] = [0, 1, 2, 9, 10, 11, 99, 100, 101, 200, 255];
-const FIELD_LENGTHS: [usize; 5] = [0, 1, 2, 255, 256];
 
 pub fn line_sweep(random: &mut Random, calls: &mut Vec<Call>) {
     for line in [
@@ -92,12 +83,8 @@ pub fn line_sweep(random: &mut Random, calls: &mut Vec<Call>) {
         let exact = exact_length(&line);
         every_room(line, exact, random, calls);
     }
-    let (line, exact) = message_line(3, [2, 2, 2, 9], random);
-    every_room(line, exact, random, calls);
     line_digits(random, calls);
-    line_fields(random, calls);
-    fixed_lines(random, calls);
-    calls.push(longest_call(false, random));
+    message_lines(random, calls);
 }
 
 fn line_digits(random: &mut Random, calls: &mut Vec<Call>) {
@@ -109,8 +96,8 @@ fn line_digits(random: &mut Random, calls: &mut Vec<Call>) {
                 calls.push(line.again().list(&random.bytes(room)).from(LINES));
             }
         }
-        let (line, exact) = message_line(byte, [2, 2, 1, 1], random);
-        calls.push(line.list(&random.bytes(exact)).from(LINES));
+        let (line, exact) = message_line(usize::from(byte) % FIXED.len(), byte, 1, random);
+        calls.push(line.list(&random.bytes(exact)).from(MESSAGE_LINES));
     }
     let counts = counts_of_digits();
     for &count in &counts {
@@ -123,56 +110,23 @@ fn line_digits(random: &mut Random, calls: &mut Vec<Call>) {
     }
 }
 
-/// Fields of every telling length, up to the first that is too long; one that is too long with
-/// every kind of room.
-fn line_fields(random: &mut Random, calls: &mut Vec<Call>) {
-    for from in FIELD_LENGTHS {
-        for to in FIELD_LENGTHS {
-            for code in FIELD_LENGTHS {
-                for payload in FIELD_LENGTHS {
-                    let port = random.pick(&[1, 2, 3, 3, 10, 255]);
-                    let (line, exact) = message_line(port, [from, to, code, payload], random);
-                    calls.push(telling_room(line, exact, random));
-                }
-            }
-        }
-    }
-    for field in 0..4 {
-        for length in [254, 255, 256, 257, 300] {
-            let mut lengths = [1; 4];
-            lengths[field] = length;
-            let (line, exact) = message_line(1, lengths, random);
-            for room in [0, exact - 1, exact, 2100] {
-                calls.push(line.again().list(&random.bytes(room)).from(LINES));
-            }
-        }
-    }
-}
-
 /// Lines whose lengths the opcode says but for the payload's: every room of a short one, every
 /// digit of the port, and payloads up to the first that are too long with every kind of room.
-fn fixed_lines(random: &mut Random, calls: &mut Vec<Call>) {
+fn message_lines(random: &mut Random, calls: &mut Vec<Call>) {
     for which in 0..FIXED.len() {
-        let (line, exact) = fixed_line(which, 3, 2, random);
+        let (line, exact) = message_line(which, 3, 2, random);
         every_room(line, exact, random, calls);
         for port in BYTES_OF_DIGITS {
-            let (line, exact) = fixed_line(which, port, 1, random);
-            calls.push(line.list(&random.bytes(exact)).from(FIXED_LINES));
+            let (line, exact) = message_line(which, port, 1, random);
+            calls.push(line.list(&random.bytes(exact)).from(MESSAGE_LINES));
         }
         for payload in [0, 1, 2, 254, 255, 256, 257, 300] {
-            let (line, exact) = fixed_line(which, 1 + which as u8, payload, random);
+            let (line, exact) = message_line(which, 1 + which as u8, payload, random);
             for room in [0, exact - 1, exact, exact + 1, 2100] {
-                calls.push(line.again().list(&random.bytes(room)).from(FIXED_LINES));
+                calls.push(line.again().list(&random.bytes(room)).from(MESSAGE_LINES));
             }
         }
     }
-}
-
-/// The longest call there may be, or one of a byte more.
-pub fn longest_call(is_too_long: bool, random: &mut Random) -> Call {
-    let lists = [16_384, 16_384, 16_384, 16_372 - 100 + usize::from(is_too_long)];
-    let (line, _) = message_line(1, lists, random);
-    line.list(&random.bytes(100)).from(LINES)
 }
 
 pub fn random_line(random: &mut Random) -> Call {
@@ -188,16 +142,10 @@ pub fn random_line(random: &mut Random) -> Call {
             let exact = exact_length(&line);
             (line, exact)
         }
-        2 => {
+        _ => {
             let payload = random.pick(&[0, 1, 2, 20, 254, 255, 256]);
             let port = random.byte() >> random.below(8);
-            fixed_line(random.below(FIXED.len()), port, payload, random)
-        }
-        _ => {
-            let length = random.pick(&[0, 1, 2, 20, 254, 255, 256]);
-            let from = random.pick(&[0, 2, 2, 255]);
-            let lengths = [from, 2, random.between(0, 3), length];
-            message_line(random.byte() >> random.below(8), lengths, random)
+            message_line(random.below(FIXED.len()), port, payload, random)
         }
     };
     telling_room(line, exact, random)

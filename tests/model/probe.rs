@@ -1,4 +1,4 @@
-//! The protocol of `test_probe`: calls in, results out, each made by the model.
+//! The protocol of the programs `test_probe_..`: calls in, results out, each made by the model.
 
 use crate::by_packet::{self, Listing};
 use crate::lines::{self, Fields};
@@ -9,20 +9,27 @@ use crate::{checksum, comlynx, eversolar, fronius, hand_over, packet, roster, Wr
 /// "A list is W (its length, at most 16,384) and that many bytes."
 const LONGEST_LIST: usize = 16_384;
 
-/// "A call of more than 65,536 bytes".
-const LONGEST_CALL: usize = 65_536;
-
 /// What is lent at most of a HELD list.
 const MOST_HELD_LENT: usize = 512;
 
-/// "`test_probe` reads calls from standard input, makes each, and writes its result to standard
-/// output, call after call, until the input ends. A call whose bytes are not all there, an opcode
-/// that is not listed, a list longer than it may be, or a call of more than 65,536 bytes, ends it:
-/// it writes nothing more."
-pub fn session(input: &[u8]) -> Vec<u8> {
+/// Which program makes a call: "`test_probe_readers` makes ops 01 to 09, `test_probe_listing` makes
+/// ops 81 to 8C, `test_probe_calls` makes all others", counted from 0.
+pub fn program_of(op: u8) -> usize {
+    match op {
+        0x01..=0x09 => 0,
+        0x81..=0x8C => 1,
+        _ => 2,
+    }
+}
+
+/// "Each reads calls from standard input, makes each, and writes its result to standard output,
+/// call after call, until the input ends. A call whose bytes are not all there, an opcode that is
+/// not its own, or a list longer than it may be, ends it: it writes nothing more."
+pub fn session(program: usize, input: &[u8]) -> Vec<u8> {
     let mut output = Vec::new();
     let mut calls = Arguments { rest: input };
-    while let Some(result) = next_result(&mut calls) {
+    while calls.rest.first().is_some_and(|&op| program_of(op) == program) {
+        let Some(result) = next_result(&mut calls) else { break };
         output.extend(as_list(&result));
     }
     output
@@ -116,7 +123,6 @@ impl Answer {
 }
 
 fn next_result(calls: &mut Arguments) -> Option<Vec<u8>> {
-    let bytes_before = calls.rest.len();
     let answer = match calls.byte()? {
         0x01 => read_comlynx(calls),
         0x02 => read_eversolar(calls),
@@ -156,7 +162,6 @@ fn next_result(calls: &mut Arguments) -> Option<Vec<u8>> {
         0x74 => checksum_over_the_first(calls),
         0x75 => checksum_over_both(calls),
         0x81 => header_line(calls),
-        0x82 => message_line(calls),
         0x83 => damage_line(calls),
         0x84 => stop_line(calls),
         0x85 => end_line(calls),
@@ -169,8 +174,7 @@ fn next_result(calls: &mut Arguments) -> Option<Vec<u8>> {
         0x8C => message_line_of(calls, [0, 2, 1]),
         _ => None,
     };
-    let length = bytes_before - calls.rest.len();
-    answer.filter(|_| length <= LONGEST_CALL).map(|answer| answer.bytes)
+    answer.map(|answer| answer.bytes)
 }
 
 // ---- readers ----
@@ -556,14 +560,7 @@ fn header_line(calls: &mut Arguments) -> Option<Answer> {
     Some(put_line(lines::HEADER, calls.lent()?))
 }
 
-fn message_line(calls: &mut Arguments) -> Option<Answer> {
-    let port = calls.byte()?;
-    let (from, to) = (calls.list()?.to_vec(), calls.list()?.to_vec());
-    let (code, payload) = (calls.list()?.to_vec(), calls.list()?.to_vec());
-    Some(put_message_line(port, &Fields { from, to, code, payload }, calls.lent()?))
-}
-
-/// "Ops 8A to 8C write the line of op 82 for those lists": from, to and code have these lengths.
+/// "a message's line where from, to and code have" these lengths.
 fn message_line_of(calls: &mut Arguments, lengths: [usize; 3]) -> Option<Answer> {
     let port = calls.byte()?;
     let (from, to) = (calls.bytes(lengths[0])?.to_vec(), calls.bytes(lengths[1])?.to_vec());

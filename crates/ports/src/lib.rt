@@ -1,6 +1,6 @@
 // The readers of all ports side by side, one a port. A call goes to the reader of its port and leaves the others as they are.
 //
-// `Ports::step` is for hosts that hold all readers by value and are handed a port and a piece, as `test_published` and `test_probe` do here.
+// `Ports::step` is for hosts that hold all readers by value and are handed a port and a piece, as `test_published` and `test_probe_listing` do here.
 // Such a call copies all three readers, some 700 bytes. So `listing`, which calls often, chooses the port itself: it takes the reader out once
 // a packet, calls that reader alone, and puts it back.
 //

@@ -1,0 +1,133 @@
+// One call of a family's reader from any state, forged ones too, and the fresh states. Each puts out the head of its result, and
+// the state.
+use crate::heads::HEAD;
+use crate::heads::say_head;
+use crate::heads::size_told;
+use crate::heads::told;
+use crate::states::MESSAGE;
+use crate::states::comlynx_state;
+use crate::states::eversolar_state;
+use crate::states::fronius_state;
+use crate::states::say_comlynx;
+use crate::states::say_eversolar;
+use crate::states::say_fronius;
+use test_parts::high;
+use test_parts::low;
+
+// ---- ComLynx
+
+fn comlynx_message(h: comlynx::Header, used: usize) -> [u8; HEAD] {
+    let source = h.source as usize;
+    let destination = h.destination as usize;
+    [
+        MESSAGE,
+        low(used),
+        high(used),
+        low(source),
+        high(source),
+        low(destination),
+        high(destination),
+        h.kind,
+        low(h.len),
+        high(h.len),
+        0,
+    ]
+}
+
+pub(crate) fn comlynx_head(answer: comlynx::Answer, used: usize) -> [u8; HEAD] {
+    match answer {
+        comlynx::Answer::Done => size_told(0, used),
+        comlynx::Answer::Message(h) => comlynx_message(h, used),
+        comlynx::Answer::Damaged(what) => size_told(what.number(), used),
+        comlynx::Answer::Refused(why) => size_told(why.number(), used),
+    }
+}
+
+pub(crate) fn comlynx(s: &[u8], piece: &[u8], lent: &mut [u8], head: usize) {
+    let step = comlynx_state(s).step(piece, lent);
+    let answer = step.answer;
+    let state = step.reader;
+    say_head(comlynx_head(answer, step.used), head);
+    say_comlynx(state);
+}
+
+// ---- Eversolar
+
+fn eversolar_message(h: eversolar::Header, used: usize) -> [u8; HEAD] {
+    [
+        MESSAGE,
+        low(used),
+        high(used),
+        h.source_first,
+        h.source_second,
+        h.destination_first,
+        h.destination_second,
+        h.control,
+        h.function,
+        low(h.len),
+        high(h.len),
+    ]
+}
+
+pub(crate) fn eversolar_head(answer: eversolar::Answer, used: usize) -> [u8; HEAD] {
+    match answer {
+        eversolar::Answer::Done => size_told(0, used),
+        eversolar::Answer::Message(h) => eversolar_message(h, used),
+        eversolar::Answer::Damaged(what) => size_told(what.number(), used),
+        eversolar::Answer::Refused(why) => size_told(why.number(), used),
+    }
+}
+
+pub(crate) fn eversolar(s: &[u8], piece: &[u8], lent: &mut [u8], head: usize) {
+    let step = eversolar_state(s).step(piece, lent);
+    let answer = step.answer;
+    let state = step.reader;
+    say_head(eversolar_head(answer, step.used), head);
+    say_eversolar(state);
+}
+
+// ---- Fronius
+
+fn fronius_message(h: fronius::Header, used: usize) -> [u8; HEAD] {
+    [
+        MESSAGE,
+        low(used),
+        high(used),
+        h.device,
+        h.number,
+        h.command,
+        low(h.len),
+        high(h.len),
+        0,
+        0,
+        0,
+    ]
+}
+
+pub(crate) fn fronius_head(answer: fronius::Answer, used: usize) -> [u8; HEAD] {
+    match answer {
+        fronius::Answer::Done => size_told(0, used),
+        fronius::Answer::Message(h) => fronius_message(h, used),
+        fronius::Answer::Damaged(what) => size_told(what.number(), used),
+        fronius::Answer::Refused(why) => size_told(why.number(), used),
+    }
+}
+
+pub(crate) fn fronius(s: &[u8], piece: &[u8], lent: &mut [u8], head: usize) {
+    let step = fronius_state(s).step(piece, lent);
+    let answer = step.answer;
+    let state = step.reader;
+    say_head(fronius_head(answer, step.used), head);
+    say_fronius(state);
+}
+
+// ---- the fresh states
+
+pub(crate) fn fresh(op: u8, head: usize) {
+    say_head(told(0, 0), head);
+    match op {
+        0x04 => say_comlynx(comlynx::Reader::fresh()),
+        0x05 => say_eversolar(eversolar::Reader::fresh()),
+        _ => say_fronius(fronius::Reader::fresh()),
+    }
+}

@@ -1,0 +1,98 @@
+// A reader's state as the bytes of a call and of its result: any state, forged ones too.
+use crate::wire::put;
+use crate::wire::say;
+use crate::wire::say_size;
+use crate::wire::size_at;
+use test_parts::byte_at;
+use test_parts::part;
+
+// The answer number of a message.
+pub(crate) const MESSAGE: u8 = 1;
+
+// How many bytes the numbers of a state have: ComLynx has no length.
+pub(crate) const COMLYNX_NUMBERS: usize = 3;
+
+pub(crate) const OTHER_NUMBERS: usize = 5;
+
+// Where a reader's held bytes end in a state, and where the state ends.
+pub(crate) const COMLYNX_HELD: usize = 265;
+
+pub(crate) const COMLYNX_STATE: usize = COMLYNX_HELD + COMLYNX_NUMBERS;
+
+pub(crate) const EVERSOLAR_HELD: usize = 263;
+
+pub(crate) const EVERSOLAR_STATE: usize = EVERSOLAR_HELD + OTHER_NUMBERS;
+
+pub(crate) const FRONIUS_HELD: usize = 130;
+
+pub(crate) const FRONIUS_STATE: usize = FRONIUS_HELD + OTHER_NUMBERS;
+
+// Where a state has its numbers behind its held bytes. The byte before the state, an opcode or the last byte of another state, counts too.
+const STAGE: usize = 1;
+
+const COUNT: usize = 2;
+
+const LEN: usize = 4;
+
+// Puts out what every family's state has.
+fn say_state(held: &[u8], stage: u8, count: usize) {
+    let stage = [stage];
+    say(held);
+    say(&stage);
+    say_size(count);
+}
+
+// ---- ComLynx
+
+pub(crate) fn comlynx_state(s: &[u8]) -> comlynx::Reader {
+    let mut held = [0u8; COMLYNX_HELD];
+    put(&mut held, 0, part(s, 1, COMLYNX_HELD));
+    comlynx::Reader {
+        held,
+        stage: byte_at(s, COMLYNX_HELD + STAGE),
+        count: size_at(s, COMLYNX_HELD + COUNT),
+    }
+}
+
+pub(crate) fn say_comlynx(state: comlynx::Reader) {
+    let held = state.held;
+    say_state(&held, state.stage, state.count);
+}
+
+// ---- Eversolar
+
+pub(crate) fn eversolar_state(s: &[u8]) -> eversolar::Reader {
+    let mut held = [0u8; EVERSOLAR_HELD];
+    put(&mut held, 0, part(s, 1, EVERSOLAR_HELD));
+    eversolar::Reader {
+        held,
+        stage: byte_at(s, EVERSOLAR_HELD + STAGE),
+        count: size_at(s, EVERSOLAR_HELD + COUNT),
+        len: size_at(s, EVERSOLAR_HELD + LEN),
+    }
+}
+
+pub(crate) fn say_eversolar(state: eversolar::Reader) {
+    let held = state.held;
+    say_state(&held, state.stage, state.count);
+    say_size(state.len);
+}
+
+// ---- Fronius
+
+pub(crate) fn fronius_state(s: &[u8]) -> fronius::Reader {
+    let mut held = [0u8; FRONIUS_HELD];
+    put(&mut held, 0, part(s, 1, FRONIUS_HELD));
+    fronius::Reader {
+        held,
+        stage: byte_at(s, FRONIUS_HELD + STAGE),
+        count: size_at(s, FRONIUS_HELD + COUNT),
+        len: size_at(s, FRONIUS_HELD + LEN),
+    }
+}
+
+pub(crate) fn say_fronius(state: fronius::Reader) {
+    let held = state.held;
+    say_state(&held, state.stage, state.count);
+    say_size(state.len);
+}
