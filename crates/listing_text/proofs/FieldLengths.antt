@@ -2,19 +2,15 @@
 -- Assumes nothing.
 use Prim.Native.Nat.{ℕ, zero, suc, _+_, _*_, _/_, _%_, _≤_, _<_}
 use mathlib.Core.Path.{_≡_, refl, sym, ap, _∙_}
-use mathlib.Core.Bool.{Bool, true, false, cond, _||_}
+use mathlib.Core.Bool.{Bool, true, false}
 use mathlib.Core.List.{List, [], _∷_, _++_, append-assoc}
 use lib.ListN.{length, getD, take, drop, length-append, take-append-drop}
 use lib.Dec.{ltb}
 use borrow.Author.Tests.{lt-ltb, le-ltb, ltb-true, ltb-false, ne-eqb}
 use native.Mathlib.Nat.{add-zero, zero-add, add-suc, suc-add, le-of-suc-le-suc, not-suc-le-zero}
 use native.Mathlib.Omega.{arith}
-use Rattle.numbers.proofs.Alike.{zero-is-one}
-use Rattle.listing_text.specs.Lines.{hexDigit, hex, field, digits, decimal, titleLine, Shown, tooLong, fieldMax, messageLine, damageLine, stopLine, endWord, endLine}
-use Rattle.listing_text.specs.Inside.{widthOf, digitsFrom, hexDigits, placesMax, messageLength, start}
-
-never : {A : Type 0} → true ≡ false → A
-never e = zero-is-one cc
+use Rattle.listing_text.specs.Lines.{hexDigit, hex, field, digits, decimal, titleLine, Shown, messageLine, damageLine, stopLine, endWord, endLine}
+use Rattle.listing_text.specs.Inside.{widthOf, digitsFrom, hexDigits, placesMax, lineLength, start}
 
 -- ---- hex
 
@@ -123,6 +119,9 @@ decimal-10 n h = rw (decimal-one n h)
 
 -- ---- lines
 
+abbrev pub messageLength : (port : ℕ) → Shown → ℕ
+messageLength port m = lineLength port (widthOf (length (m .from)) + widthOf (length (m .to)) + widthOf (length (m .code))) (length (m .payload))
+
 pub message-length : (port : ℕ) (m : Shown) → length (messageLine port m) ≡ messageLength port m
 message-length port m =
     simp (length-append, decimal-one 1 (omega arith)) (omega (arith, field-length (m .from), field-length (m .to), field-length (m .code), field-length (m .payload)))
@@ -146,18 +145,3 @@ end-length messages damages = simp length-append (omega arith)
 
 pub end-text : (messages damages : ℕ) → ((endWord ++ (32 ∷ [])) ++ (decimal messages ++ (32 ∷ []))) ++ (decimal damages ++ (10 ∷ [])) ≡ endLine messages damages
 end-text messages damages = simp append-assoc
-
--- what is not too long
-pub within : (m : Shown) → tooLong m ≡ false
-    → (length (m .from) ≤ fieldMax) × (length (m .to) ≤ fieldMax) × (length (m .code) ≤ fieldMax) × (length (m .payload) ≤ fieldMax)
-within m e =
-    go (ltb fieldMax (length (m .from))) (ltb fieldMax (length (m .to))) (ltb fieldMax (length (m .code))) (ltb fieldMax (length (m .payload))) refl refl refl refl e
-  where
-    go : (s t u v : Bool) → ltb fieldMax (length (m .from)) ≡ s → ltb fieldMax (length (m .to)) ≡ t → ltb fieldMax (length (m .code)) ≡ u
-        → ltb fieldMax (length (m .payload)) ≡ v → (s || t || u || v) ≡ false
-        → (length (m .from) ≤ fieldMax) × (length (m .to) ≤ fieldMax) × (length (m .code) ≤ fieldMax) × (length (m .payload) ≤ fieldMax)
-    go false false false false a b c d x = (ltb-false _ _ a, ltb-false _ _ b, ltb-false _ _ c, ltb-false _ _ d)
-    go true t u v a b c d x = never x
-    go false true u v a b c d x = never x
-    go false false true v a b c d x = never x
-    go false false false true a b c d x = never x

@@ -15,8 +15,8 @@ use Rattle.answers.specs.declared.Refusal.the-variants.{TooLong, NoRoom}
 use Rattle.answers.specs.declared.Written.the-variants.{Done, Refused}
 use Rattle.answers.proofs.WriterPromise.{writes-too-long, writes-no-room}
 use Rattle.listing_text.specs.Lines.{field, fieldMax, Shown, tooLong, messageLine, IsMessage}
-use Rattle.listing_text.specs.Inside.{lineLength, messageLength, refusedFor, start, beforeCode, Put}
-use Rattle.listing_text.proofs.FieldLengths.{message-length, message-text}
+use Rattle.listing_text.specs.Inside.{lineLength, refusedFor, start, beforeCode, Put}
+use Rattle.listing_text.proofs.FieldLengths.{messageLength, message-length, message-text}
 use Rattle.listing_text.proofs.PutsJoin.{then, written}
 
 -- what stands before the code
@@ -43,18 +43,14 @@ line-join port m l c d e r s t x h k =
     let four = then l d e (B ++ C) D 0 s t (then l c d B C 0 r s x h) k in
     rw (message-text port m) at four
 
--- refused with 8
-pub message-too-long : (port : ℕ) (m : Shown) (lent : List ℕ) → tooLong m ≡ true → IsMessage port m lent (Refused TooLong) lent
-message-too-long port m lent e = rw e (writes-too-long (messageLine port m) lent)
-
 -- refused with 9
-pub message-no-room : (port : ℕ) (m : Shown) (lent : List ℕ) → tooLong m ≡ false → ltb (length lent) (messageLength port m) ≡ true
+message-no-room : (port : ℕ) (m : Shown) (lent : List ℕ) → tooLong m ≡ false → ltb (length lent) (messageLength port m) ≡ true
     → IsMessage port m lent (Refused NoRoom) lent
 message-no-room port m lent e h =
     rw e (writes-no-room (messageLine port m) lent (omega (arith, message-length port m, ltb-true (length lent) (messageLength port m) h)))
 
 -- written
-pub message-written : (port : ℕ) (m : Shown) (lent later : List ℕ) (r : ℕ) → tooLong m ≡ false → ltb (length lent) (messageLength port m) ≡ false
+message-written : (port : ℕ) (m : Shown) (lent later : List ℕ) (r : ℕ) → tooLong m ≡ false → ltb (length lent) (messageLength port m) ≡ false
     → Put lent 0 (messageLine port m) r later → IsMessage port m lent (Done r) later
 message-written port m lent later r e h put =
     rw e

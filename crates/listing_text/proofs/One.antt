@@ -11,17 +11,14 @@ use Rattle.listing_text.specs.Lines.{titleLine, Shown, messageLine, dama
 pub title-one : (lent a b : List ℕ) (v w : Written) → IsTitle lent v a → IsTitle lent w b → (v ≡ w) × (a ≡ b)
 title-one = writes-one false titleLine
 
-pub message-one : (port : ℕ) (m : Shown) (lent a b : List ℕ) (v w : Written) → IsMessage port m lent v a → IsMessage port m lent w b → (v ≡ w) × (a ≡ b)
-message-one port m = writes-one (tooLong m) (messageLine port m)
-
 pub message-2-2-1-one : (port : ℕ) (m : Shown) (lent a b : List ℕ) (v w : Written) → IsMessage port m lent v a → IsMessage port m lent w b → (v ≡ w) × (a ≡ b)
-message-2-2-1-one = message-one
+message-2-2-1-one port m = writes-one (tooLong m) (messageLine port m)
 
 pub message-2-2-2-one : (port : ℕ) (m : Shown) (lent a b : List ℕ) (v w : Written) → IsMessage port m lent v a → IsMessage port m lent w b → (v ≡ w) × (a ≡ b)
-message-2-2-2-one = message-one
+message-2-2-2-one port m = writes-one (tooLong m) (messageLine port m)
 
 pub message-0-2-1-one : (port : ℕ) (m : Shown) (lent a b : List ℕ) (v w : Written) → IsMessage port m lent v a → IsMessage port m lent w b → (v ≡ w) × (a ≡ b)
-message-0-2-1-one = message-one
+message-0-2-1-one port m = writes-one (tooLong m) (messageLine port m)
 
 pub damage-one : (port number : ℕ) (lent a b : List ℕ) (v w : Written) → IsDamage port number lent v a → IsDamage port number lent w b → (v ≡ w) × (a ≡ b)
 damage-one port number = writes-one false (damageLine port number)

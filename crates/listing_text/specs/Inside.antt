@@ -9,7 +9,7 @@ use lib.Dec.{eqb}
 use Rattle.answers.specs.declared.Refusal.the-variants.{TooLong, NoRoom}
 use Rattle.answers.specs.declared.Written.{Written}
 use Rattle.answers.specs.declared.Written.the-variants.{Refused}
-use Rattle.listing_text.specs.Lines.{hexDigit, field, decimal, Shown}
+use Rattle.listing_text.specs.Lines.{hexDigit, field, decimal}
 
 -- `width`: the bytes that the field of n bytes takes
 unfoldable pub widthOf : ℕ → ℕ
@@ -30,16 +30,9 @@ hexDigits = digitsFrom 0 16
 abbrev pub placesMax : ℕ
 placesMax = 20
 
--- `widths`
-abbrev pub widthsOf : (from to code : List ℕ) → ℕ
-widthsOf from to code = widthOf (length from) + widthOf (length to) + widthOf (length code)
-
 -- `is_refused`: of a line whose first three fields take so many bytes, and whose data have n
 abbrev pub lineLength : (port three n : ℕ) → ℕ
 lineLength port three n = length (decimal port) + three + widthOf n + 7
-
-abbrev pub messageLength : (port : ℕ) → Shown → ℕ
-messageLength port m = lineLength port (widthsOf (m .from) (m .to) (m .code)) (length (m .payload))
 
 -- `refusal`
 abbrev pub refusedFor : (tooLong : Bool) → Written

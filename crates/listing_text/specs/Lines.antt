@@ -91,7 +91,7 @@ tooLong m = ltb fieldMax (length (m .from)) || ltb fieldMax (length (m .to)) || 
 abbrev pub IsTitle : List ℕ → Written → List ℕ → Type 0
 IsTitle = Writes false titleLine
 
--- `message`, and `message_2_2_1` and the like, where from, to and code have so many bytes
+-- `message_2_2_1` and the like, where from, to and code have so many bytes
 abbrev pub IsMessage : (port : ℕ) → Shown → List ℕ → Written → List ℕ → Type 0
 IsMessage port m = Writes (tooLong m) (messageLine port m)
 

@@ -8,8 +8,8 @@ use crate::hex::put_two;
 use crate::hex::width;
 use answers::Refusal;
 use answers::Written;
-ghost use Rattle.listing_text.specs.Lines.{decimal, fieldMax, shown, tooLong, messageLine, IsTitle, IsMessage, IsDamage, IsStop, IsEnd};
-ghost use Rattle.listing_text.specs.Inside.{widthMax, widthsOf, lineLength, messageLength, refusedFor, start, beforeCode, Put};
+ghost use Rattle.listing_text.specs.Lines.{decimal, fieldMax, shown, IsTitle, IsMessage, IsDamage, IsStop, IsEnd};
+ghost use Rattle.listing_text.specs.Inside.{widthMax, lineLength, refusedFor, start, beforeCode, Put};
 ghost use Prim.Native.Nat.{_+_, _*_, _≤_};
 ghost use mathlib.Core.Path.{_≡_};
 ghost use mathlib.Core.Bool.{_||_};
@@ -43,25 +43,6 @@ pub fn title(lent: &mut [u8]) -> Written
     }
     bytes::copy(&TITLE, lent);
     Written::Done(TITLE.len())
-}
-
-// Whether one of the four lists of a message is too long.
-fn too_long(from: &[u8], to: &[u8], code: &[u8], payload: &[u8]) -> bool
-    ensures { λ r. ⌜ r ≡ tooLong (shown (now (from .entry)) (now (to .entry)) (now (code .entry)) (now (payload .entry))) ⌝ }
-{
-    (FIELD_MAX < from.len())
-        | (FIELD_MAX < to.len())
-        | (FIELD_MAX < code.len())
-        | (FIELD_MAX < payload.len())
-}
-
-// How many bytes the fields of the first three take.
-fn widths(from: &[u8], to: &[u8], code: &[u8]) -> usize
-    requires { ⌜ (length (now from) ≤ fieldMax) × (length (now to) ≤ fieldMax) × (length (now code) ≤ fieldMax) ⌝ }
-    ensures { λ r. ⌜ r ≡ widthsOf (now (from .entry)) (now (to .entry)) (now (code .entry)) ⌝ }
-    ensures { λ r. ⌜ r ≤ 3 * widthMax ⌝ }
-{
-    width(from.len()) + width(to.len()) + width(code.len())
 }
 
 // Whether a line is refused whose first three fields take `three` bytes, and whose data have `n`. Where there is room for any
@@ -122,48 +103,8 @@ fn put_0_2(port: u8, to1: u8, to2: u8, lent: &mut [u8]) -> usize
     put_two(to1, to2, lent, q)
 }
 
-// The line of a message, where there is room for it.
-fn put_message(
-    port: u8,
-    from: &[u8],
-    to: &[u8],
-    code: &[u8],
-    payload: &[u8],
-    lent: &mut [u8],
-) -> usize
-    requires { ⌜ messageLength port (shown (now from) (now to) (now code) (now payload)) ≤ length (now lent) ⌝ }
-    ensures { λ r. ⌜ Put (now (lent .entry)) 0 (messageLine port (shown (now (from .entry)) (now (to .entry)) (now (code .entry)) (now (payload .entry)))) r (now (lent .exit)) ⌝ }
-{
-    let p = put_start(port, lent);
-    let q = put_field(from, b' ', lent, p);
-    let r = put_field(to, b' ', lent, q);
-    let s = put_field(code, b' ', lent, r);
-    put_field(payload, b'\n', lent, s)
-}
-
-// Writes the line of a message that came from `port`. Nothing is stored before both tests have held.
-pub fn message(
-    port: u8,
-    from: &[u8],
-    to: &[u8],
-    code: &[u8],
-    payload: &[u8],
-    lent: &mut [u8],
-) -> Written
-    ensures { λ w. ⌜ IsMessage port (shown (now (from .entry)) (now (to .entry)) (now (code .entry)) (now (payload .entry))) (now (lent .entry)) w (now (lent .exit)) ⌝ }
-{
-    if too_long(from, to, code, payload) {
-        return Written::Refused(Refusal::TooLong);
-    }
-    let three = widths(from, to, code);
-    if is_refused(port, three, payload.len(), lent.len()) {
-        return Written::Refused(Refusal::NoRoom);
-    }
-    Written::Done(put_message(port, from, to, code, payload, lent))
-}
-
-// The same line where from, to and code have 2, 2 and 1 bytes. There is a function for each shape, so that the compiler knows the
-// lengths; with one caller it is inlined there.
+// Writes the line of a message that came from `port`, where from, to and code have 2, 2 and 1 bytes. There is a function for each
+// shape, so that the compiler knows the lengths; with one caller it is inlined there. Nothing is stored before the test has held.
 pub fn message_2_2_1(
     port: u8,
     from1: u8,

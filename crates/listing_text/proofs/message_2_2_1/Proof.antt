@@ -9,7 +9,8 @@ use mathlib.Core.Path.{_≡_, sym, _∙_}
 use mathlib.Core.Bool.{Bool, _||_}
 use mathlib.Core.List.{[], _∷_}
 use Rattle.listing_text.specs.Lines.{Shown, shown, tooLong}
-use Rattle.listing_text.specs.Inside.{widthOf, lineLength, messageLength}
+use Rattle.listing_text.specs.Inside.{widthOf, lineLength}
+use Rattle.listing_text.proofs.FieldLengths.{messageLength}
 use Rattle.listing_text.proofs.MessageWrites.{line-join, message-refused, message-fits, has-room}
 use Rattle.listing_text.proofs.message_2_2_1.Statement.{statement}
 use Rattle.listing_text.proofs.message_2_2_1.Tie as tie
