@@ -38,7 +38,7 @@ module _ (F : Family) where
   pub borne-later : (a bs : List ℕ) (t : Told (F .Message)) → BorneOut F bs t → BorneOut F (a ++ bs) t
   borne-later a bs done b = tt
   borne-later a bs (gives (message m)) b = (b .0, ends-later a (b .1))
-  borne-later a bs (gives (damage n)) b = tt
+  borne-later a bs (gives (damage n lost)) b = tt
   borne-later a bs (refuses n) b = tt
 
 -- p is borne out by `pre` and the bytes bs up to the one that settles it, and these end with `last`

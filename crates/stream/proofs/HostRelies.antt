@@ -50,7 +50,7 @@ module _ {S M H R : Type 0} (next : S → ℕ → Moved S (Event M)) (inRange : 
     abbrev lengthTold : Told H → ℕ
     lengthTold done = 0
     lengthTold (gives (message h)) = len h
-    lengthTold (gives (damage n)) = 0
+    lengthTold (gives (damage n lost)) = 0
     lengthTold (refuses n) = 0
 
     told-fits : (t : Told M) (lent : List ℕ) → length (delivered payload t lent) ≡ length lent → lengthTold (retold header t) ≤ length lent
@@ -59,7 +59,7 @@ module _ {S M H R : Type 0} (next : S → ℕ → Moved S (Event M)) (inRange : 
         let own = counts m in
         let both = rw (length-append, length-drop) at e in
         omega arith
-    told-fits (gives (damage n)) lent e = omega arith
+    told-fits (gives (damage n lost)) lent e = omega arith
     told-fits (refuses n) lent e = omega arith
 
     pub step-fits : (s : S) (piece lent later : List ℕ) (r : R) (h : H) → Steps next inRange header payload shown s piece lent r later

@@ -19,7 +19,7 @@ in-room next inRange s piece lent r h = rw (r, le-ltb (length lent) lentLeast h)
 number-retold : {M H : Type 0} (f : M → H) (t : Told M) → number (retold f t) ≡ number t
 number-retold f done = refl
 number-retold f (gives (message m)) = refl
-number-retold f (gives (damage n)) = refl
+number-retold f (gives (damage n lost)) = refl
 number-retold f (refuses n) = refl
 
 -- an answer whose number is that of what it tells, and which tells t, shows t under its number
@@ -59,7 +59,7 @@ module _ {S M H R : Type 0} (next : S → ℕ → Moved S (Event M)) (inRange : 
     rejoined : (t : Told M) (lent : List ℕ) → retold (λ h. join h (delivered payload t lent)) (retold header t) ≡ t
     rejoined done lent = refl
     rejoined (gives (message m)) lent = ap (λ (n : M). gives (message n)) (joins m (drop (length (payload m)) lent))
-    rejoined (gives (damage n)) lent = refl
+    rejoined (gives (damage n lost)) lent = refl
     rejoined (refuses n) lent = refl
 
     pub steps-seen : (s : S) (piece lent later : List ℕ) (r : R) → Steps next inRange header payload shown s piece lent r later
@@ -73,7 +73,7 @@ module _ {S M H R : Type 0} (next : S → ℕ → Moved S (Event M)) (inRange : 
     untouched : (t : Told M) (lent : List ℕ) → ((m : M) → t ≡ gives (message m) → ⊥) → delivered payload t lent ≡ lent
     untouched done lent n = refl
     untouched (gives (message m)) lent n = absurd (n m refl)
-    untouched (gives (damage k)) lent n = refl
+    untouched (gives (damage k lost)) lent n = refl
     untouched (refuses k) lent n = refl
 
     pub steps-keeps : (s : S) (piece lent later : List ℕ) (r : R) → Steps next inRange header payload shown s piece lent r later

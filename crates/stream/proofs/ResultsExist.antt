@@ -15,7 +15,7 @@ use Rattle.stream.proofs.BytesOfParts.{bytes-head, bytes-tail}
 abbrev pub Cased : {M : Type 0} → (ℕ → Type 0) → Option (Event M) → Type 0
 Cased Named none = Unit {0}
 Cased Named (some (message m)) = Unit {0}
-Cased Named (some (damage n)) = Named n
+Cased Named (some (damage n lost)) = Named n
 
 module _ {S M : Type 0} (next : S → ℕ → Moved S (Event M)) (inRange : S → Bool) (Named : ℕ → Type 0) where
   -- a byte leads from a state in range to one, and a damage that it settles has a case

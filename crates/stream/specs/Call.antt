@@ -40,14 +40,14 @@ called next inRange s piece lent =
 abbrev pub delivered : {M : Type 0} → (M → List ℕ) → Told M → List ℕ → List ℕ
 delivered payload done lent = lent
 delivered payload (gives (message m)) lent = payload m ++ drop (length (payload m)) lent
-delivered payload (gives (damage n)) lent = lent
+delivered payload (gives (damage n lost)) lent = lent
 delivered payload (refuses n) lent = lent
 
 -- the same answer, told of a message by another name for it
 abbrev pub retold : {M N : Type 0} → (M → N) → Told M → Told N
 retold f done = done
 retold f (gives (message m)) = gives (message (f m))
-retold f (gives (damage n)) = gives (damage n)
+retold f (gives (damage n lost)) = gives (damage n lost)
 retold f (refuses n) = refuses n
 
 abbrev pub retells : {S M N : Type 0} → (M → N) → Seen S M → Seen S N

@@ -11,7 +11,7 @@ module _ {H : Type 0} (len : H → ℕ) where
   abbrev pub Small : ℕ → Told H → Type 0
   Small most done = Unit {0}
   Small most (gives (message h)) = len h ≤ most
-  Small most (gives (damage n)) = Unit {0}
+  Small most (gives (damage n lost)) = Unit {0}
   Small most (refuses n) = Unit {0}
 
   -- the lent buffer afterwards: of the held bytes the payload begins at this index

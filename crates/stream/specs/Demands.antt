@@ -65,7 +65,7 @@ module _ (F : Family) where
   abbrev pub BorneOut : List ℕ → Told (F .Message) → Type 0
   BorneOut bs done = Unit {0}
   BorneOut bs (gives (message m)) = F .Takes m × EndsWith (F .wire m) bs
-  BorneOut bs (gives (damage n)) = Unit {0}
+  BorneOut bs (gives (damage n lost)) = Unit {0}
   BorneOut bs (refuses n) = Unit {0}
 
   -- DEMAND 2. And a rule that accepts anything else is shut out: from fresh, in such calls, each message that is told is one that the writer

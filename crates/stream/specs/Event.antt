@@ -2,10 +2,10 @@
 use Prim.Native.Nat.{ℕ}
 use mathlib.Core.Option.{Option, none, some}
 
--- what bytes settle: a message, or a damage by its number
+-- what bytes settle: a message, or a damage by its number, with how many bytes were lost (document 02, Req 09)
 pub data Event (M : Type 0) : Type 0 where
   message : M → Event M
-  damage : ℕ → Event M
+  damage : (number lost : ℕ) → Event M
 
 -- what a call tells: that its piece is used up, an event, or a refusal by its number
 pub data Told (M : Type 0) : Type 0 where
@@ -17,7 +17,7 @@ pub data Told (M : Type 0) : Type 0 where
 abbrev pub number : {M : Type 0} → Told M → ℕ
 number done = 0
 number (gives (message m)) = 1
-number (gives (damage n)) = n
+number (gives (damage n lost)) = n
 number (refuses n) = n
 
 -- what a call tells that came to this event, or to none
