@@ -11,6 +11,7 @@ use lib.Pow.{areBytes}
 use borrow.Author.Tests.{eqb-true, eqb-false}
 use native.Mathlib.Omega.{arith}
 use Rattle.numbers.proofs.Alike.{zero-is-one}
+use Rattle.numbers.proofs.SameLists.{both}
 use Rattle.comlynx_checksum.specs.Checksum.{sent, others, agrees}
 use Rattle.comlynx_checksum.proofs.SentAgrees.{only-these}
 use Rattle.stream.specs.Event.{Event, message, damage, gives}
@@ -19,13 +20,13 @@ use Rattle.stream.specs.Demands.{EndsWith, BorneOut}
 use Rattle.stream.proofs.BytesOfParts.{bytes-cons, bytes-head, bytes-tail, bytes-at, bytes-append, bytes-take, bytes-drop}
 use Rattle.stream.proofs.BorneOutByBytes.{in-test, none-found, same-found, Bears, bears-on, bears-all}
 use Rattle.comlynx.specs.Wire.{Message, Takes, covered, body, messageOf, flag, stuffed, bodyMax, bodyLeast}
-use Rattle.comlynx.specs.Rules.{unstuffed, sized, begins, judged, judgedBody, judge, within, before, rule}
+use Rattle.comlynx.specs.Rules.{unstuffed, sized, begins, judged, judgedBody, lostOf, judge, within, before, rule}
 use Rattle.comlynx.specs.Demands.{comlynx, Stretch}
-use Rattle.comlynx.proofs.JudgedIsDelivered.{both, sized-bounds}
+use Rattle.comlynx.proofs.JudgedIsDelivered.{sized-bounds}
 use Rattle.comlynx.proofs.UnstuffingUndoes.{bytes-unstuffed, stands-for}
 
-wrong : {A : Type 0} (k : ℕ) (m : Message) → damage k ≡ message m → A
-wrong k m q = zero-is-one cc
+wrong : {A : Type 0} (k lost : ℕ) (m : Message) → damage k lost ≡ message m → A
+wrong k lost m q = zero-is-one cc
 
 eight : (u : List ℕ) → 8 ≤ length u
     → u ≡ getD u 0 0 ∷ getD u 1 0 ∷ getD u 2 0 ∷ getD u 3 0 ∷ getD u 4 0 ∷ getD u 5 0 ∷ getD u 6 0 ∷ getD u 7 0 ∷ drop 8 u
@@ -47,16 +48,16 @@ record Shown (u : List ℕ) (m : Message) : Type 0 where
   sum : agrees u ≡ true
   tells : messageOf u ≡ m
 
-shows : (u : List ℕ) (m : Message) → judged (length u) (agrees u) u ≡ message m → Shown u m
+shows : (lost : ℕ) (u : List ℕ) (m : Message) → judged lost (length u) (agrees u) u ≡ message m → Shown u m
 unfolding judged
-shows u m e =
-    in-test (λ a. a ≡ message m) (Shown u m) (sized (length u)) _ (damage 3) e
+shows lost u m e =
+    in-test (λ a. a ≡ message m) (Shown u m) (sized (length u)) _ (damage 3 lost) e
     (λ t₀ e₀.
-    in-test (λ a. a ≡ message m) (Shown u m) (begins u) _ (damage 4) e₀
+    in-test (λ a. a ≡ message m) (Shown u m) (begins u) _ (damage 4 lost) e₀
     (λ t₁ e₁.
-    in-test (λ a. a ≡ message m) (Shown u m) (eqb (getD u 6 0) (length u - bodyLeast)) _ (damage 5) e₁
+    in-test (λ a. a ≡ message m) (Shown u m) (eqb (getD u 6 0) (length u - bodyLeast)) _ (damage 5 lost) e₁
     (λ t₂ e₂.
-    in-test (λ a. a ≡ message m) (Shown u m) (agrees u) (message (messageOf u)) (damage 6) e₂
+    in-test (λ a. a ≡ message m) (Shown u m) (agrees u) (message (messageOf u)) (damage 6 lost) e₂
     (λ t₃ e₃.
     let b = both (eqb (getD u 0 0) 0xFF) (eqb (getD u 1 0) 0x03) t₁ in
     record {
@@ -66,10 +67,10 @@ shows u m e =
       sum = t₃;
       tells = cc;
     })
-    (λ _ e₃. wrong 6 m e₃))
-    (λ _ e₂. wrong 5 m e₂))
-    (λ _ e₁. wrong 4 m e₁))
-    (λ _ e₀. wrong 3 m e₀)
+    (λ _ e₃. wrong 6 lost m e₃))
+    (λ _ e₂. wrong 5 lost m e₂))
+    (λ _ e₁. wrong 4 lost m e₁))
+    (λ _ e₀. wrong 3 lost m e₀)
 
 module _ (u : List ℕ) (m : Message) (p : T (areBytes u)) (s : Shown u m) where
   -- what the checksum takes is what it takes of the message told
@@ -106,19 +107,19 @@ module _ (u : List ℕ) (m : Message) (p : T (areBytes u)) (s : Shown u m) where
   takes-it : Takes m
   takes-it = subst Takes (s .tells) takes-told
 
-judged-only : (w : List ℕ) (o : Option (List ℕ)) (m : Message) → T (areBytes w) → Stretch w → unstuffed false w ≡ o → judgedBody o ≡ message m
+judged-only : (lost : ℕ) (w : List ℕ) (o : Option (List ℕ)) (m : Message) → T (areBytes w) → Stretch w → unstuffed false w ≡ o → judgedBody lost o ≡ message m
     → Takes m × (w ≡ stuffed (body m))
-judged-only w none m p k e v = wrong 2 m v
-judged-only w (some u) m p k e v =
+judged-only lost w none m p k e v = wrong 2 lost m v
+judged-only lost w (some u) m p k e v =
     let q : w ≡ stuffed u = stands-for w u k e in
     let g : T (areBytes u) = bytes-unstuffed u (subst (λ (l : List ℕ). T (areBytes l)) q p) in
-    let s : Shown u m = shows u m v in
+    let s : Shown u m = shows lost u m v in
     (takes-it u m g s, q ∙ ap stuffed (body-is u m g s))
 
 -- a stretch of bytes is judged a message only if it is the stuffing of that message's body, and the message is one that the writer takes
 judged-so : (w : List ℕ) (m : Message) → Stretch w → T (areBytes w) → judge w ≡ message m → Takes m × (w ≡ stuffed (body m))
 unfolding judge
-judged-so w m k p e = judged-only w (unstuffed false w) m p k refl e
+judged-so w m k p e = judged-only (lostOf w) w (unstuffed false w) m p k refl e
 
 -- ---- so what the rule finds to be a message is its frame: the flag that opens it may be the one that closed the stretch before
 
@@ -133,7 +134,7 @@ closed w bs at k g = record { count = 1; used = refl; borne = go (judge w) refl;
     go (message m) q =
         let j = judged-so w m k g q in
         (j .0, record { front = []; joins = ap (λ (l : List ℕ). flag ∷ (l ++ (flag ∷ []))) (j .1) })
-    go (damage n) q = tt
+    go (damage n lost) q = tt
 
 stretch-more : (w : List ℕ) (b : ℕ) → Stretch w → (b ≡ flag → ⊥) → Stretch (w ++ (b ∷ []))
 stretch-more [] b k n = (n, tt)

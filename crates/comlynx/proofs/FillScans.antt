@@ -1,7 +1,7 @@
 -- Plain bytes taken into a stretch.
 -- Assumes nothing.
 use Prim.Native.Nat.{ℕ, _+_, _-_, _≤_, _<_}
-use mathlib.Core.Path.{_≡_, refl, sym, ap, _∙_}
+use mathlib.Core.Path.{_≡_, refl, sym, ap, ap₂, _∙_}
 use mathlib.Core.Bool.{Bool, true, false, _&&_, _||_, not}
 use mathlib.Core.List.{List}
 use lib.ListN.{length, getD, set, length-set}
@@ -13,15 +13,24 @@ use Rattle.numbers.proofs.Alike.{zero-is-one}
 use Rattle.stream.specs.Pieces.{scanFrom}
 use Rattle.stream.proofs.LoopScans.{from-goes}
 use Rattle.comlynx.specs.Wire.{flag, escape, bodyMax}
-use Rattle.comlynx.specs.Machine.{inside, next}
+use Rattle.comlynx.specs.Machine.{inside, more, next}
 use Rattle.comlynx.specs.Inside.{Plain, AllPlain, Filled}
+use Rattle.comlynx.proofs.StageRanges.{more-most}
 use Rattle.comlynx.proofs.MachineMoves.{keeps}
 
 -- none, one, and some after some
 pub filled-none : (c : ℕ) (h p : List ℕ) (i : ℕ) → i ≤ length p → c ≤ bodyMax → Filled c h p i i h
 filled-none c h p i hi hc =
     let e : c ≡ c + (i - i) = omega arith in
-    record { forward = omega arith; within = hi; room = omega arith; sized = refl; goes = ap (λ (n : ℕ). scanFrom next (inside n h) p i) e }
+    record {
+      forward = omega arith;
+      within = hi;
+      room = omega arith;
+      sized = refl;
+      goes = λ came most.
+          let f : came ≡ more came (i - i) = omega arith in
+          ap₂ (λ (r n : ℕ). scanFrom next (inside r n h) p i) f e;
+    }
 
 pub filled-one : (c : ℕ) (h p : List ℕ) (i : ℕ) → i < length p → c < bodyMax → Plain (getD p i 0) → Filled c h p i (i + 1) (set h c (getD p i 0))
 filled-one c h p i hi hc q =
@@ -31,9 +40,10 @@ filled-one c h p i hi hc q =
       within = omega arith;
       room = omega arith;
       sized = length-set h c (getD p i 0);
-      goes =
-          from-goes next (inside c h) (inside (c + 1) (set h c (getD p i 0))) p i hi (keeps c h (getD p i 0) (q .0) (q .1) hc)
-          ∙ ap (λ (n : ℕ). scanFrom next (inside n (set h c (getD p i 0))) p (i + 1)) e;
+      goes = λ came most.
+          let f : more came 1 ≡ more came (i + 1 - i) = omega arith in
+          from-goes next (inside came c h) (inside (more came 1) (c + 1) (set h c (getD p i 0))) p i hi (keeps came c h (getD p i 0) (q .0) (q .1) hc)
+          ∙ ap₂ (λ (r n : ℕ). scanFrom next (inside r n (set h c (getD p i 0))) p (i + 1)) f e;
     }
 
 pub filled-more : (c : ℕ) (h p : List ℕ) (i : ℕ) (j : ℕ) (k : List ℕ) (d m : ℕ) (l : List ℕ) → d ≡ c + (j - i) → Filled c h p i j k → Filled d k p j m l → Filled c h p i m l
@@ -44,11 +54,13 @@ filled-more c h p i j k d m l e f g =
       within = g .within;
       room = omega (arith, g .room);
       sized = g .sized ∙ f .sized;
-      goes =
-          f .goes
-          ∙ ap (λ (x : ℕ). scanFrom next (inside x k) p j) (sym e)
-          ∙ g .goes
-          ∙ ap (λ (x : ℕ). scanFrom next (inside x l) p m) n;
+      goes = λ came most.
+          let r = more came (j - i) in
+          let o : more r (m - j) ≡ more came (m - i) = omega (arith, f .forward, g .forward) in
+          f .goes came most
+          ∙ ap (λ (x : ℕ). scanFrom next (inside r x k) p j) (sym e)
+          ∙ g .goes r (more-most came (j - i))
+          ∙ ap₂ (λ (y x : ℕ). scanFrom next (inside y x l) p m) o n;
     }
 
 -- ---- the bytes seen so far are all plain

@@ -2,13 +2,14 @@
 -- Assumes nothing.
 use Prim.Native.Nat.{ℕ, _+_, _-_, _*_, _≤_, _<_}
 use mathlib.Core.Path.{_≡_, refl, sym, ap, _∙_}
-use mathlib.Core.Bool.{Bool, true, false, _&&_}
+use mathlib.Core.Bool.{Bool, true, false}
 use mathlib.Core.List.{List}
 use lib.ListN.{length, take, drop, getD, length-drop}
 use lib.Seq.{getD-take, length-take-le, take-take}
 use lib.Dec.{eqb, leb}
 use borrow.Author.Tests.{eq-eqb, ne-eqb, leb-true}
 use native.Mathlib.Omega.{arith}
+use Rattle.numbers.proofs.SameLists.{both}
 use Rattle.answers.specs.Answer.{need}
 use Rattle.answers.specs.declared.Damage.the-variants.{WrongBodyLength, WrongStart, WrongSize, WrongSum}
 use Rattle.comlynx_checksum.specs.Checksum.{checksumOf, agrees, IsSentOf}
@@ -29,13 +30,12 @@ use Rattle.comlynx.specs.declared.reader.End.{End}
 use Rattle.comlynx.specs.declared.reader.End.the-variants.{UsedUp, Closed, Broken}
 use Rattle.comlynx.specs.declared.reader.Answer.{Answer}
 use Rattle.comlynx.specs.declared.reader.Answer.the-variants.{Done, Message as Read, Damaged, Refused}
-use Rattle.comlynx.proofs.StageRanges.{false-true}
 
 -- an answer's number is that of what it tells
 pub number-told : (a : Answer) → number a ≡ Event.number (told a)
 number-told Done = refl
 number-told (Read h) = refl
-number-told (Damaged what) = refl
+number-told (Damaged what lost) = refl
 number-told (Refused why) = refl
 
 -- the header that is read off the held bytes
@@ -43,10 +43,6 @@ abbrev pub heldHeader : ℕ → List ℕ → Header
 heldHeader len held = record { source = getD held 2 0 * 256 + getD held 3 0; destination = getD held 4 0 * 256 + getD held 5 0; kind = getD held 7 0; len = len }
 
 -- ---- a length in bounds
-
-pub both : (s t : Bool) → s && t ≡ true → (s ≡ true) × (t ≡ true)
-both true t e = (refl, e)
-both false t e = false-true e
 
 pub sized-bounds : (n : ℕ) → sized n ≡ true → (bodyLeast ≤ n) × (n ≤ bodyMax)
 sized-bounds n e = let t = both (leb bodyLeast n) (leb n bodyMax) e in (leb-true bodyLeast n (t .0), leb-true n bodyMax (t .1))
@@ -102,39 +98,39 @@ module _ (n : ℕ) (held : List ℕ) (full : length held ≡ bodyMax) (fits : si
       agrees-by-bytes (take n held) (n - 2) (omega (arith, taken, least))
       ∙ rw (same, ← sent-low sum d s, ← sent-high sum d s, at-place (n - 2) (omega (arith, least)), last, at-place (n - 1) (omega (arith, least)))
 
-module _ (n low high : ℕ) (held : List ℕ) (full : length held ≡ bodyMax) where
-  pub judged-length : sized n ≡ false → Judges n low high held (Damaged WrongBodyLength)
+module _ (n came low high : ℕ) (held : List ℕ) (full : length held ≡ bodyMax) where
+  pub judged-length : sized n ≡ false → Judges n came low high held (Damaged WrongBodyLength came)
   unfolding judged
   judged-length e = rw e
 
   module _ (fits : sized n ≡ true) where
-    pub judged-start : begins held ≡ false → Judges n low high held (Damaged WrongStart)
+    pub judged-start : begins held ≡ false → Judges n came low high held (Damaged WrongStart came)
     unfolding judged
     judged-start e = rw (fits, begins-taken n held full fits, e)
 
     module _ (starts : begins held ≡ true) where
-      pub judged-size : (getD held 6 0 ≡ n - bodyLeast → ⊥) → Judges n low high held (Damaged WrongSize)
+      pub judged-size : (getD held 6 0 ≡ n - bodyLeast → ⊥) → Judges n came low high held (Damaged WrongSize came)
       unfolding judged
       judged-size e = rw (fits, begins-taken n held full fits, starts, size-taken n held full fits, ne-eqb (getD held 6 0) (n - bodyLeast) e)
 
-      pub judged-sum : getD held 6 0 ≡ n - bodyLeast → due n low high held ≡ false → Judges n low high held (Damaged WrongSum)
+      pub judged-sum : getD held 6 0 ≡ n - bodyLeast → due n low high held ≡ false → Judges n came low high held (Damaged WrongSum came)
       unfolding judged
       judged-sum e d = rw (fits, begins-taken n held full fits, starts, size-taken n held full fits, eq-eqb (getD held 6 0) (n - bodyLeast) e, d)
 
-      pub judged-message : getD held 6 0 ≡ n - bodyLeast → due n low high held ≡ true → Judges n low high held (Read (heldHeader (n - bodyLeast) held))
+      pub judged-message : getD held 6 0 ≡ n - bodyLeast → due n low high held ≡ true → Judges n came low high held (Read (heldHeader (n - bodyLeast) held))
       unfolding judged
       judged-message e d =
           rw (fits, begins-taken n held full fits, starts, size-taken n held full fits, eq-eqb (getD held 6 0) (n - bodyLeast) e, d)
           (ap (λ (h : Header). gives (message h)) (sym (held-header n held full fits)))
 
 -- a stretch that closes, judged by what is due
-pub closes : (n sum : ℕ) (held : List ℕ) (d : Sent) → length held ≡ bodyMax → sum ≡ checksumOf (take (n - 2) held) → IsSentOf sum d
-    → closed n held ≡ judged n (due n (d .low) (d .high) held) (take n held)
+pub closes : (n came sum : ℕ) (held : List ℕ) (d : Sent) → length held ≡ bodyMax → sum ≡ checksumOf (take (n - 2) held) → IsSentOf sum d
+    → closed came n held ≡ judged came n (due n (d .low) (d .high) held) (take n held)
 unfolding judged
-closes n sum held d full e s = go (sized n) refl
+closes n came sum held d full e s = go (sized n) refl
   where
-    go : (t : Bool) → sized n ≡ t → closed n held ≡ judged n (due n (d .low) (d .high) held) (take n held)
-    go true f = ap (λ (r : Bool). judged n r (take n held)) (agrees-due n held full f sum d e s)
+    go : (t : Bool) → sized n ≡ t → closed came n held ≡ judged came n (due n (d .low) (d .high) held) (take n held)
+    go true f = ap (λ (r : Bool). judged came n r (take n held)) (agrees-due n held full f sum d e s)
     go false f = rw f
 
 -- ---- what is told of a stretch, delivered
@@ -142,15 +138,15 @@ closes n sum held d full e s = go (sized n) refl
 abbrev DeliversTo : List ℕ → List ℕ → Told Message → Type 0
 DeliversTo held lent t = Delivers header (λ m. m .payload) (λ h. h .len) payloadMax 8 held lent (retold header t) t
 
-stretch-delivers : (n : ℕ) (right : Bool) (held lent : List ℕ) → length held ≡ bodyMax → DeliversTo held lent (gives (judged n right (take n held)))
+stretch-delivers : (n came : ℕ) (right : Bool) (held lent : List ℕ) → length held ≡ bodyMax → DeliversTo held lent (gives (judged came n right (take n held)))
 unfolding judged
-stretch-delivers n right held lent full = go (sized n) (begins (take n held)) (eqb (getD (take n held) 6 0) (n - bodyLeast)) right refl
+stretch-delivers n came right held lent full = go (sized n) (begins (take n held)) (eqb (getD (take n held) 6 0) (n - bodyLeast)) right refl
   where
     m : Message
     m = messageOf (take n held)
 
     go : (f s z r : Bool) → sized n ≡ f
-        → DeliversTo held lent (gives (need f (damage 3) (need s (damage 4) (need z (damage 5) (need r (damage 6) (message m))))))
+        → DeliversTo held lent (gives (need f (damage 3 came) (need s (damage 4 came) (need z (damage 5 came) (need r (damage 6 came) (message m))))))
     go false s z r f = (tt, refl)
     go true false z r f = (tt, refl)
     go true true false r f = (tt, refl)
@@ -162,8 +158,8 @@ stretch-delivers n right held lent full = go (sized n) (begins (take n held)) (e
 
 end-delivers : (e : End) (held lent : List ℕ) → length held ≡ bodyMax → DeliversTo held lent (outcome (eventOf e held))
 end-delivers UsedUp held lent full = (tt, refl)
-end-delivers (Closed n) held lent full = stretch-delivers n (agrees (take n held)) held lent full
-end-delivers Broken held lent full = (tt, refl)
+end-delivers (Closed n came) held lent full = stretch-delivers n came (agrees (take n held)) held lent full
+end-delivers (Broken came) held lent full = (tt, refl)
 
 pub delivers : (e : End) (held lent : List ℕ) (a : Answer) → length held ≡ bodyMax → JudgedAs (eventOf e held) a
     → Small a × (given a held lent ≡ delivered (λ (m : Message). m .payload) (outcome (eventOf e held)) lent)

@@ -20,8 +20,8 @@ use Rattle.stream.specs.Rule.{Settled}
 use Rattle.stream.proofs.FamilyFacts.{Follows}
 use Rattle.stream.proofs.FollowsByBytes.{Finds, finds-end, finds-goes, finds-tells, follows-by}
 use Rattle.comlynx.specs.Wire.{Message, flag, escape, bodyMax, flagPair, escapePair, bodyLeast}
-use Rattle.comlynx.specs.Rules.{withFirst, unstuffed, sized, judged, judgedBody, judge, within, before, rule}
-use Rattle.comlynx.specs.Machine.{tooMany, waiting, inside, escaped, broken, fresh, on, tells, closed, next}
+use Rattle.comlynx.specs.Rules.{withFirst, unstuffed, sized, judged, judgedBody, lostOf, judge, within, before, rule}
+use Rattle.comlynx.specs.Machine.{tooMany, waiting, inside, escaped, broken, fresh, more, on, tells, closed, next}
 use Rattle.comlynx.specs.declared.reader.Reader.{Reader}
 use Rattle.comlynx.proofs.MachineMoves.{flag-first, flag-empty, flag-closes, flag-after-escape, flag-breaks, waits, marks, keeps, overflows, pair-flag, pair-flag-over, pair-escape, pair-escape-over, spoils, stays-broken}
 use Rattle.comlynx.proofs.UnstuffingUndoes.{by-test}
@@ -34,7 +34,7 @@ pub record Stands (s : Reader) (as-in : List ℕ → Reader) : Type 0 where
 
 abbrev pub At : Bool → Reader → Type 0
 At false s = Stands s waiting
-At true s = Stands s (inside 0)
+At true s = Stands s (inside 0 0)
 
 abbrev Agrees : ℕ → Option (Settled (Event Message)) → Reader → List ℕ → Type 0
 Agrees = Finds next (At true)
@@ -77,16 +77,16 @@ too-long : (n : ℕ) → bodyMax < n → sized n ≡ false
 too-long n k = rw (le-leb bodyLeast n (omega arith), lt-leb n bodyMax k)
 
 -- so what is held is judged as the whole
-holds-closed : (c : ℕ) (h u : List ℕ) → Holds c h u → closed c h ≡ judged (length u) (agrees u) u
+holds-closed : (k c : ℕ) (h u : List ℕ) → Holds c h u → closed k c h ≡ judged k (length u) (agrees u) u
 unfolding judged
-holds-closed c h u r =
+holds-closed k c h u r =
     elim (decLe (length u) bodyMax) [
-      | yes k ↦ (
+      | yes y ↦ (
           let e : c ≡ length u = omega (arith, r .counted) in
-          let f : take c h ≡ u = r .same ∙ take-all bodyMax u k in
-          ap₂ (λ (n : ℕ) (l : List ℕ). judged n (agrees l) l) e f)
-      | no k ↦ (
-          let lt : bodyMax < length u = lt-of-not-le k in
+          let f : take c h ≡ u = r .same ∙ take-all bodyMax u y in
+          ap₂ (λ (n : ℕ) (l : List ℕ). judged k n (agrees l) l) e f)
+      | no y ↦ (
+          let lt : bodyMax < length u = lt-of-not-le y in
           rw (too-long c (omega (arith, r .counted)), too-long (length u) (omega arith)))
     ]
 
@@ -95,10 +95,10 @@ holds-closed c h u r =
 data Mode : Type 0 where
   clear half bad : Mode
 
-abbrev stateOf : Mode → ℕ → List ℕ → Reader
-stateOf clear c h = inside c h
-stateOf half c h = escaped c h
-stateOf bad c h = broken c h
+abbrev stateOf : Mode → (came count : ℕ) → List ℕ → Reader
+stateOf clear k c h = inside k c h
+stateOf half k c h = escaped k c h
+stateOf bad k c h = broken k c h
 
 -- u in front
 abbrev ahead : List ℕ → Option (List ℕ) → Option (List ℕ)
@@ -122,8 +122,9 @@ empty half u = false
 empty bad u = false
 
 -- of a stretch `came` has come, which left the machine so
-record Track (m : Mode) (c : ℕ) (h u came : List ℕ) : Type 0 where
+record Track (m : Mode) (k c : ℕ) (h u came : List ℕ) : Type 0 where
   holds : Holds c h u
+  sent : k ≡ lostOf came
   means : (rest : List ℕ) → unstuffed false (came ++ rest) ≡ whole m u rest
   begun : eqb (length came) 0 ≡ empty m u
 
@@ -134,22 +135,25 @@ means-on : (m n : Mode) (u v came : List ℕ) (b : ℕ) → ((rest : List ℕ) �
     → ((rest : List ℕ) → whole m u (b ∷ rest) ≡ whole n v rest) → (rest : List ℕ) → unstuffed false ((came ++ b ∷ []) ++ rest) ≡ whole n v rest
 means-on m n u v came b f g rest = ap (unstuffed false) (append-assoc came (b ∷ []) rest) ∙ f (b ∷ rest) ∙ g rest
 
-begins-so : (h : List ℕ) → length h ≡ bodyMax → Track clear 0 h [] []
-begins-so h w = record { holds = record { wide = w; counted = refl; same = refl }; means = λ rest. sym (ahead-nil (unstuffed false rest)); begun = refl }
+begins-so : (h : List ℕ) → length h ≡ bodyMax → Track clear 0 0 h [] []
+begins-so h w = record { holds = record { wide = w; counted = refl; same = refl }; sent = refl; means = λ rest. sym (ahead-nil (unstuffed false rest)); begun = refl }
   where
     ahead-nil : (o : Option (List ℕ)) → ahead [] o ≡ o
     ahead-nil none = refl
     ahead-nil (some v) = refl
 
+sent-more : (k : ℕ) (came : List ℕ) (b : ℕ) → k ≡ lostOf came → more k 1 ≡ lostOf (came ++ b ∷ [])
+sent-more k came b e = omega (arith, length-append came (b ∷ []))
+
 -- the claim for the bytes bs
 abbrev Claim : List ℕ → Type 0
-Claim bs = (m : Mode) (c : ℕ) (h u came : List ℕ) → Track m c h u came → (at : ℕ) → Agrees at (within at came bs) (stateOf m c h) bs
+Claim bs = (m : Mode) (k c : ℕ) (h u came : List ℕ) → Track m k c h u came → (at : ℕ) → Agrees at (within at came bs) (stateOf m k c h) bs
 
 -- ---- a flag
 
-judge-so : (m : Mode) (c : ℕ) (h u came : List ℕ) → Track m c h u came → (o : Option (List ℕ)) → whole m u [] ≡ o → judge came ≡ judgedBody o
+judge-so : (m : Mode) (k c : ℕ) (h u came : List ℕ) → Track m k c h u came → (o : Option (List ℕ)) → whole m u [] ≡ o → judge came ≡ judgedBody k o
 unfolding judge
-judge-so m c h u came t o e = ap (λ (l : List ℕ). judgedBody (unstuffed false l)) (sym (append-nil came)) ∙ ap judgedBody (t .means [] ∙ e)
+judge-so m k c h u came t o e = ap₂ judgedBody (sym (t .sent)) (ap (unstuffed false) (sym (append-nil came)) ∙ t .means [] ∙ e)
 
 abbrev closing : ℕ → List ℕ → List ℕ → Option (Settled (Event Message))
 closing at came bs = cond (eqb (length came) 0) (within (at + 1) [] bs) (some (record { event = judge came; used = at + 1 }))
@@ -158,89 +162,90 @@ ends-with : (at : ℕ) (came bs : List ℕ) (s : Reader) (h : List ℕ) (x : Eve
     → Agrees at (closing at came bs) s (flag ∷ bs)
 ends-with at came bs s h x w e j n = rw (e, j) (finds-tells next (At true) n (record { held = h; full = w; is = refl }))
 
-at-flag : (bs : List ℕ) → Claim bs → (m : Mode) (c : ℕ) (h u came : List ℕ) → Track m c h u came → (at : ℕ) → Agrees at (closing at came bs) (stateOf m c h) (flag ∷ bs)
-at-flag bs ih clear c h [] came t at =
-    rw (t .begun, t .holds .counted) (finds-goes next (At true) (flag-empty h) (ih clear 0 h [] [] (begins-so h (t .holds .wide)) (at + 1)))
-at-flag bs ih clear c h (x ∷ u) came t at =
-    ends-with at came bs (inside c h) h (closed c h) (t .holds .wide) (t .begun ∙ ne-eqb (suc (length u)) 0 (λ e. omega arith))
-    (judge-so clear c h (x ∷ u) came t (some (x ∷ u)) (ap some (append-nil (x ∷ u))) ∙ sym (holds-closed c h (x ∷ u) (t .holds)))
-    (flag-closes c h (λ e. omega (arith, t .holds .counted)))
-at-flag bs ih half c h u came t at =
-    ends-with at came bs (escaped c h) h (damage 2) (t .holds .wide) (t .begun) (judge-so half c h u came t none refl) (flag-after-escape c h)
-at-flag bs ih bad c h u came t at =
-    ends-with at came bs (broken c h) h (damage 2) (t .holds .wide) (t .begun) (judge-so bad c h u came t none refl) (flag-breaks c h)
+at-flag : (bs : List ℕ) → Claim bs → (m : Mode) (k c : ℕ) (h u came : List ℕ) → Track m k c h u came → (at : ℕ) → Agrees at (closing at came bs) (stateOf m k c h) (flag ∷ bs)
+at-flag bs ih clear k c h [] came t at =
+    rw (t .begun, t .holds .counted) (finds-goes next (At true) (flag-empty k h) (ih clear 0 0 h [] [] (begins-so h (t .holds .wide)) (at + 1)))
+at-flag bs ih clear k c h (x ∷ u) came t at =
+    ends-with at came bs (inside k c h) h (closed k c h) (t .holds .wide) (t .begun ∙ ne-eqb (suc (length u)) 0 (λ e. omega arith))
+    (judge-so clear k c h (x ∷ u) came t (some (x ∷ u)) (ap some (append-nil (x ∷ u))) ∙ sym (holds-closed k c h (x ∷ u) (t .holds)))
+    (flag-closes k c h (λ e. omega (arith, t .holds .counted)))
+at-flag bs ih half k c h u came t at =
+    ends-with at came bs (escaped k c h) h (damage 2 k) (t .holds .wide) (t .begun) (judge-so half k c h u came t none refl) (flag-after-escape k c h)
+at-flag bs ih bad k c h u came t at =
+    ends-with at came bs (broken k c h) h (damage 2 k) (t .holds .wide) (t .begun) (judge-so bad k c h u came t none refl) (flag-breaks k c h)
 
 -- ---- another byte
 
 -- one more byte v of the body
-one-more : (bs : List ℕ) → Claim bs → (m : Mode) (c : ℕ) (h u came : List ℕ) → Track m c h u came → (at b v : ℕ)
-    → (c < bodyMax → next (stateOf m c h) b ≡ on (inside (c + 1) (set h c v))) → (bodyMax ≤ c → next (stateOf m c h) b ≡ on (inside tooMany h))
+one-more : (bs : List ℕ) → Claim bs → (m : Mode) (k c : ℕ) (h u came : List ℕ) → Track m k c h u came → (at b v : ℕ)
+    → (c < bodyMax → next (stateOf m k c h) b ≡ on (inside (more k 1) (c + 1) (set h c v))) → (bodyMax ≤ c → next (stateOf m k c h) b ≡ on (inside (more k 1) tooMany h))
     → ((rest : List ℕ) → whole m u (b ∷ rest) ≡ ahead u (withFirst v (unstuffed false rest)))
-    → Agrees at (within (at + 1) (came ++ b ∷ []) bs) (stateOf m c h) (b ∷ bs)
-one-more bs ih m c h u came t at b v f g w = go (ltb c bodyMax) refl
+    → Agrees at (within (at + 1) (came ++ b ∷ []) bs) (stateOf m k c h) (b ∷ bs)
+one-more bs ih m k c h u came t at b v f g w = go (ltb c bodyMax) refl
   where
-    track : (c′ : ℕ) (h′ : List ℕ) → Holds c′ h′ (u ++ v ∷ []) → Track clear c′ h′ (u ++ v ∷ []) (came ++ b ∷ [])
+    track : (c′ : ℕ) (h′ : List ℕ) → Holds c′ h′ (u ++ v ∷ []) → Track clear (more k 1) c′ h′ (u ++ v ∷ []) (came ++ b ∷ [])
     track c′ h′ r =
         record {
           holds = r;
+          sent = sent-more k came b (t .sent);
           means = means-on m clear u (u ++ v ∷ []) came b (t .means) (λ rest. w rest ∙ ahead-front u v (unstuffed false rest));
           begun = snoc-some came b ∙ sym (snoc-some u v);
         }
 
-    go : (q : Bool) → ltb c bodyMax ≡ q → Agrees at (within (at + 1) (came ++ b ∷ []) bs) (stateOf m c h) (b ∷ bs)
+    go : (q : Bool) → ltb c bodyMax ≡ q → Agrees at (within (at + 1) (came ++ b ∷ []) bs) (stateOf m k c h) (b ∷ bs)
     go true e =
         let lt = ltb-true c bodyMax e in
-        finds-goes next (At true) (f lt) (ih clear (c + 1) (set h c v) (u ++ v ∷ []) (came ++ b ∷ []) (track (c + 1) (set h c v) (holds-more c h u v lt (t .holds))) (at + 1))
+        finds-goes next (At true) (f lt) (ih clear (more k 1) (c + 1) (set h c v) (u ++ v ∷ []) (came ++ b ∷ []) (track (c + 1) (set h c v) (holds-more c h u v lt (t .holds))) (at + 1))
     go false e =
         let le = ltb-false c bodyMax e in
-        finds-goes next (At true) (g le) (ih clear tooMany h (u ++ v ∷ []) (came ++ b ∷ []) (track tooMany h (holds-full c h u v le (t .holds))) (at + 1))
+        finds-goes next (At true) (g le) (ih clear (more k 1) tooMany h (u ++ v ∷ []) (came ++ b ∷ []) (track tooMany h (holds-full c h u v le (t .holds))) (at + 1))
 
 -- the same bytes held, in another mode
-turns : (bs : List ℕ) → Claim bs → (m n : Mode) (c : ℕ) (h u came : List ℕ) → Track m c h u came → (at b : ℕ) → next (stateOf m c h) b ≡ on (stateOf n c h)
-    → empty n u ≡ false → ((rest : List ℕ) → whole m u (b ∷ rest) ≡ whole n u rest) → Agrees at (within (at + 1) (came ++ b ∷ []) bs) (stateOf m c h) (b ∷ bs)
-turns bs ih m n c h u came t at b e f w =
+turns : (bs : List ℕ) → Claim bs → (m n : Mode) (k c : ℕ) (h u came : List ℕ) → Track m k c h u came → (at b : ℕ) → next (stateOf m k c h) b ≡ on (stateOf n (more k 1) c h)
+    → empty n u ≡ false → ((rest : List ℕ) → whole m u (b ∷ rest) ≡ whole n u rest) → Agrees at (within (at + 1) (came ++ b ∷ []) bs) (stateOf m k c h) (b ∷ bs)
+turns bs ih m n k c h u came t at b e f w =
     finds-goes next (At true) e
-    (ih n c h u (came ++ b ∷ []) (record { holds = t .holds; means = means-on m n u u came b (t .means) w; begun = snoc-some came b ∙ sym f }) (at + 1))
+    (ih n (more k 1) c h u (came ++ b ∷ []) (record { holds = t .holds; sent = sent-more k came b (t .sent); means = means-on m n u u came b (t .means) w; begun = snoc-some came b ∙ sym f }) (at + 1))
 
-on-byte : (bs : List ℕ) → Claim bs → (m : Mode) (c : ℕ) (h u came : List ℕ) → Track m c h u came → (at b : ℕ) → (b ≡ flag → ⊥)
-    → Agrees at (within (at + 1) (came ++ b ∷ []) bs) (stateOf m c h) (b ∷ bs)
-on-byte bs ih clear c h u came t at b n = go (eqb b escape) refl
+on-byte : (bs : List ℕ) → Claim bs → (m : Mode) (k c : ℕ) (h u came : List ℕ) → Track m k c h u came → (at b : ℕ) → (b ≡ flag → ⊥)
+    → Agrees at (within (at + 1) (came ++ b ∷ []) bs) (stateOf m k c h) (b ∷ bs)
+on-byte bs ih clear k c h u came t at b n = go (eqb b escape) refl
   where
-    go : (q : Bool) → eqb b escape ≡ q → Agrees at (within (at + 1) (came ++ b ∷ []) bs) (inside c h) (b ∷ bs)
+    go : (q : Bool) → eqb b escape ≡ q → Agrees at (within (at + 1) (came ++ b ∷ []) bs) (inside k c h) (b ∷ bs)
     go true e =
         let is : b ≡ escape = eqb-true b escape e in
-        rw is (turns bs ih clear half c h u came t at escape (marks c h) refl (λ rest. refl))
+        rw is (turns bs ih clear half k c h u came t at escape (marks k c h) refl (λ rest. refl))
     go false e =
         let no = eqb-false b escape e in
-        one-more bs ih clear c h u came t at b b (keeps c h b n no) (overflows c h b n no) (λ rest. rw e)
-on-byte bs ih half c h u came t at b n = go (eqb b flagPair) (eqb b escapePair) refl refl
+        one-more bs ih clear k c h u came t at b b (keeps k c h b n no) (overflows k c h b n no) (λ rest. rw e)
+on-byte bs ih half k c h u came t at b n = go (eqb b flagPair) (eqb b escapePair) refl refl
   where
-    go : (q r : Bool) → eqb b flagPair ≡ q → eqb b escapePair ≡ r → Agrees at (within (at + 1) (came ++ b ∷ []) bs) (escaped c h) (b ∷ bs)
+    go : (q r : Bool) → eqb b flagPair ≡ q → eqb b escapePair ≡ r → Agrees at (within (at + 1) (came ++ b ∷ []) bs) (escaped k c h) (b ∷ bs)
     go true r e f =
         let is : b ≡ flagPair = eqb-true b flagPair e in
-        rw is (one-more bs ih half c h u came t at flagPair flag (pair-flag c h) (pair-flag-over c h) (λ rest. refl))
+        rw is (one-more bs ih half k c h u came t at flagPair flag (pair-flag k c h) (pair-flag-over k c h) (λ rest. refl))
     go false true e f =
         let is : b ≡ escapePair = eqb-true b escapePair f in
-        rw is (one-more bs ih half c h u came t at escapePair escape (pair-escape c h) (pair-escape-over c h) (λ rest. refl))
-    go false false e f = turns bs ih half bad c h u came t at b (spoils c h b n (eqb-false b flagPair e) (eqb-false b escapePair f)) refl (λ rest. rw (e, f))
-on-byte bs ih bad c h u came t at b n = turns bs ih bad bad c h u came t at b (stays-broken c h b n) refl (λ rest. refl)
+        rw is (one-more bs ih half k c h u came t at escapePair escape (pair-escape k c h) (pair-escape-over k c h) (λ rest. refl))
+    go false false e f = turns bs ih half bad k c h u came t at b (spoils k c h b n (eqb-false b flagPair e) (eqb-false b escapePair f)) refl (λ rest. rw (e, f))
+on-byte bs ih bad k c h u came t at b n = turns bs ih bad bad k c h u came t at b (stays-broken k c h b n) refl (λ rest. refl)
 
 -- ---- a stretch, and what stands before the first flag
 
 claim : (bs : List ℕ) → Claim bs
 unfolding within
-claim [] m c h u came t at = finds-end next (At true) at (stateOf m c h)
-claim (b ∷ bs) m c h u came t at =
-    by-test (λ o. Agrees at o (stateOf m c h) (b ∷ bs)) (eqb b flag)
-    (λ e. let is : b ≡ flag = eqb-true b flag e in rw is (at-flag bs (claim bs) m c h u came t at))
-    (λ e. on-byte bs (claim bs) m c h u came t at b (eqb-false b flag e))
+claim [] m k c h u came t at = finds-end next (At true) at (stateOf m k c h)
+claim (b ∷ bs) m k c h u came t at =
+    by-test (λ o. Agrees at o (stateOf m k c h) (b ∷ bs)) (eqb b flag)
+    (λ e. let is : b ≡ flag = eqb-true b flag e in rw is (at-flag bs (claim bs) m k c h u came t at))
+    (λ e. on-byte bs (claim bs) m k c h u came t at b (eqb-false b flag e))
 
 waited : (bs h : List ℕ) → length h ≡ bodyMax → (at : ℕ) → Agrees at (before at bs) (waiting h) bs
 unfolding before
 waited [] h w at = finds-end next (At true) at (waiting h)
 waited (b ∷ bs) h w at =
     by-test (λ o. Agrees at o (waiting h) (b ∷ bs)) (eqb b flag)
-    (λ e. let is : b ≡ flag = eqb-true b flag e in rw is (finds-goes next (At true) (flag-first h) (claim bs clear 0 h [] [] (begins-so h w) (at + 1))))
+    (λ e. let is : b ≡ flag = eqb-true b flag e in rw is (finds-goes next (At true) (flag-first h) (claim bs clear 0 0 h [] [] (begins-so h w) (at + 1))))
     (λ e. finds-goes next (At true) (waits h b (eqb-false b flag e)) (waited bs h w (at + 1)))
 
 pub at-fresh : At false fresh
@@ -248,4 +253,4 @@ at-fresh = record { held = replicate bodyMax 0; full = length-replicate {A = ℕ
 
 pub follows : (known : Bool) (s : Reader) → At known s → (bs : List ℕ) → T (areBytes bs) → Follows rule next At known true s bs
 follows false s a bs g = follows-by (subst (λ (x : Reader). Agrees 0 (rule false bs) x bs) (sym (a .is)) (waited bs (a .held) (a .full) 0))
-follows true s a bs g = follows-by (subst (λ (x : Reader). Agrees 0 (rule true bs) x bs) (sym (a .is)) (claim bs clear 0 (a .held) [] [] (begins-so (a .held) (a .full)) 0))
+follows true s a bs g = follows-by (subst (λ (x : Reader). Agrees 0 (rule true bs) x bs) (sym (a .is)) (claim bs clear 0 0 (a .held) [] [] (begins-so (a .held) (a .full)) 0))

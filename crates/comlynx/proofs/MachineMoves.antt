@@ -7,29 +7,29 @@ use lib.ListN.{set}
 use borrow.Author.Tests.{lt-ltb, le-ltb, ne-eqb}
 use Rattle.stream.specs.Event.{damage}
 use Rattle.comlynx.specs.Wire.{flag, escape, bodyMax, flagPair, escapePair}
-use Rattle.comlynx.specs.Machine.{tooMany, waiting, inside, escaped, broken, keepOf, advanceOf, on, tells, closed, moved, next}
+use Rattle.comlynx.specs.Machine.{tooMany, waiting, inside, escaped, broken, keepOf, advanceOf, on, tells, closed, more, moved, next}
 
 -- ---- a flag
 
-pub flag-first : (h : List ℕ) → next (waiting h) flag ≡ on (inside 0 h)
+pub flag-first : (h : List ℕ) → next (waiting h) flag ≡ on (inside 0 0 h)
 unfolding next advanceOf moved
 flag-first h = refl
 
-pub flag-empty : (h : List ℕ) → next (inside 0 h) flag ≡ on (inside 0 h)
+pub flag-empty : (k : ℕ) (h : List ℕ) → next (inside k 0 h) flag ≡ on (inside 0 0 h)
 unfolding next advanceOf moved
-flag-empty h = refl
+flag-empty k h = refl
 
-pub flag-closes : (c : ℕ) (h : List ℕ) → (c ≡ 0 → ⊥) → next (inside c h) flag ≡ tells (closed c h) h
+pub flag-closes : (k c : ℕ) (h : List ℕ) → (c ≡ 0 → ⊥) → next (inside k c h) flag ≡ tells (closed k c h) h
 unfolding next advanceOf moved
-flag-closes c h n = rw (ne-eqb c 0 n)
+flag-closes k c h n = rw (ne-eqb c 0 n)
 
-pub flag-after-escape : (c : ℕ) (h : List ℕ) → next (escaped c h) flag ≡ tells (damage 2) h
+pub flag-after-escape : (k c : ℕ) (h : List ℕ) → next (escaped k c h) flag ≡ tells (damage 2 k) h
 unfolding next advanceOf moved
-flag-after-escape c h = refl
+flag-after-escape k c h = refl
 
-pub flag-breaks : (c : ℕ) (h : List ℕ) → next (broken c h) flag ≡ tells (damage 2) h
+pub flag-breaks : (k c : ℕ) (h : List ℕ) → next (broken k c h) flag ≡ tells (damage 2 k) h
 unfolding next advanceOf moved
-flag-breaks c h = refl
+flag-breaks k c h = refl
 
 -- ---- another byte
 
@@ -37,38 +37,38 @@ pub waits : (h : List ℕ) (b : ℕ) → (b ≡ flag → ⊥) → next (waiting 
 unfolding next advanceOf moved
 waits h b n = rw (ne-eqb b flag n)
 
-pub marks : (c : ℕ) (h : List ℕ) → next (inside c h) escape ≡ on (escaped c h)
+pub marks : (k c : ℕ) (h : List ℕ) → next (inside k c h) escape ≡ on (escaped (more k 1) c h)
 unfolding next advanceOf moved
-marks c h = refl
+marks k c h = refl
 
-pub keeps : (c : ℕ) (h : List ℕ) (b : ℕ) → (b ≡ flag → ⊥) → (b ≡ escape → ⊥) → c < bodyMax → next (inside c h) b ≡ on (inside (c + 1) (set h c b))
+pub keeps : (k c : ℕ) (h : List ℕ) (b : ℕ) → (b ≡ flag → ⊥) → (b ≡ escape → ⊥) → c < bodyMax → next (inside k c h) b ≡ on (inside (more k 1) (c + 1) (set h c b))
 unfolding next advanceOf keepOf moved
-keeps c h b n m lt = rw (ne-eqb b flag n, ne-eqb b escape m, lt-ltb c bodyMax lt)
+keeps k c h b n m lt = rw (ne-eqb b flag n, ne-eqb b escape m, lt-ltb c bodyMax lt)
 
-pub overflows : (c : ℕ) (h : List ℕ) (b : ℕ) → (b ≡ flag → ⊥) → (b ≡ escape → ⊥) → bodyMax ≤ c → next (inside c h) b ≡ on (inside tooMany h)
+pub overflows : (k c : ℕ) (h : List ℕ) (b : ℕ) → (b ≡ flag → ⊥) → (b ≡ escape → ⊥) → bodyMax ≤ c → next (inside k c h) b ≡ on (inside (more k 1) tooMany h)
 unfolding next advanceOf keepOf moved
-overflows c h b n m le = rw (ne-eqb b flag n, ne-eqb b escape m, le-ltb c bodyMax le)
+overflows k c h b n m le = rw (ne-eqb b flag n, ne-eqb b escape m, le-ltb c bodyMax le)
 
-pub pair-flag : (c : ℕ) (h : List ℕ) → c < bodyMax → next (escaped c h) flagPair ≡ on (inside (c + 1) (set h c flag))
+pub pair-flag : (k c : ℕ) (h : List ℕ) → c < bodyMax → next (escaped k c h) flagPair ≡ on (inside (more k 1) (c + 1) (set h c flag))
 unfolding next advanceOf keepOf moved
-pair-flag c h lt = rw (lt-ltb c bodyMax lt)
+pair-flag k c h lt = rw (lt-ltb c bodyMax lt)
 
-pub pair-flag-over : (c : ℕ) (h : List ℕ) → bodyMax ≤ c → next (escaped c h) flagPair ≡ on (inside tooMany h)
+pub pair-flag-over : (k c : ℕ) (h : List ℕ) → bodyMax ≤ c → next (escaped k c h) flagPair ≡ on (inside (more k 1) tooMany h)
 unfolding next advanceOf keepOf moved
-pair-flag-over c h le = rw (le-ltb c bodyMax le)
+pair-flag-over k c h le = rw (le-ltb c bodyMax le)
 
-pub pair-escape : (c : ℕ) (h : List ℕ) → c < bodyMax → next (escaped c h) escapePair ≡ on (inside (c + 1) (set h c escape))
+pub pair-escape : (k c : ℕ) (h : List ℕ) → c < bodyMax → next (escaped k c h) escapePair ≡ on (inside (more k 1) (c + 1) (set h c escape))
 unfolding next advanceOf keepOf moved
-pair-escape c h lt = rw (lt-ltb c bodyMax lt)
+pair-escape k c h lt = rw (lt-ltb c bodyMax lt)
 
-pub pair-escape-over : (c : ℕ) (h : List ℕ) → bodyMax ≤ c → next (escaped c h) escapePair ≡ on (inside tooMany h)
+pub pair-escape-over : (k c : ℕ) (h : List ℕ) → bodyMax ≤ c → next (escaped k c h) escapePair ≡ on (inside (more k 1) tooMany h)
 unfolding next advanceOf keepOf moved
-pair-escape-over c h le = rw (le-ltb c bodyMax le)
+pair-escape-over k c h le = rw (le-ltb c bodyMax le)
 
-pub spoils : (c : ℕ) (h : List ℕ) (b : ℕ) → (b ≡ flag → ⊥) → (b ≡ flagPair → ⊥) → (b ≡ escapePair → ⊥) → next (escaped c h) b ≡ on (broken c h)
+pub spoils : (k c : ℕ) (h : List ℕ) (b : ℕ) → (b ≡ flag → ⊥) → (b ≡ flagPair → ⊥) → (b ≡ escapePair → ⊥) → next (escaped k c h) b ≡ on (broken (more k 1) c h)
 unfolding next advanceOf moved
-spoils c h b n m k = rw (ne-eqb b flag n, ne-eqb b flagPair m, ne-eqb b escapePair k)
+spoils k c h b n m l = rw (ne-eqb b flag n, ne-eqb b flagPair m, ne-eqb b escapePair l)
 
-pub stays-broken : (c : ℕ) (h : List ℕ) (b : ℕ) → (b ≡ flag → ⊥) → next (broken c h) b ≡ on (broken c h)
+pub stays-broken : (k c : ℕ) (h : List ℕ) (b : ℕ) → (b ≡ flag → ⊥) → next (broken k c h) b ≡ on (broken (more k 1) c h)
 unfolding next advanceOf moved
-stays-broken c h b n = rw (ne-eqb b flag n)
+stays-broken k c h b n = rw (ne-eqb b flag n)

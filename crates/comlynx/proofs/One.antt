@@ -30,14 +30,14 @@ fresh-one r s x y = x ∙ sym y
 back : Told Header → Answer
 back done = Done
 back (gives (message h)) = Read h
-back (gives (damage n)) = Damaged (damages .back n)
+back (gives (damage n lost)) = Damaged (damages .back n) lost
 back (refuses n) = Refused (refusals .back n)
 
 back-told : (a : Answer) → back (told a) ≡ a
 unfolding back
 back-told Done = refl
 back-told (Read h) = refl
-back-told (Damaged d) = ap Damaged (damages .case d)
+back-told (Damaged d lost) = ap (λ what. Damaged what lost) (damages .case d)
 back-told (Refused r) = ap Refused (refusals .case r)
 
 told-alike : (a b : Answer) → told a ≡ told b → a ≡ b
@@ -60,13 +60,13 @@ step-one s piece lent a b q r x y =
 
 -- what is put together alike has the same parts
 apart : Step → StepInPlace
-apart r = record { stage = r .reader .stage; count = r .reader .count; answer = r .answer; used = r .used }
+apart r = record { stage = r .reader .stage; came = r .reader .came; count = r .reader .count; answer = r .answer; used = r .used }
 
-pub step-in-place-one : (stage count : ℕ) (held piece lent x y a b : List ℕ) (q r : StepInPlace)
-    → IsStepInPlace stage count held piece lent q x a → IsStepInPlace stage count held piece lent r y b → (q ≡ r) × (x ≡ y) × (a ≡ b)
+pub step-in-place-one : (stage came count : ℕ) (held piece lent x y a b : List ℕ) (q r : StepInPlace)
+    → IsStepInPlace stage came count held piece lent q x a → IsStepInPlace stage came count held piece lent r y b → (q ≡ r) × (x ≡ y) × (a ≡ b)
 unfolding apart
-step-in-place-one stage count held piece lent x y a b q r f g =
-    let one = steps-one next whole header (λ m. m .payload) shown (holding stage count held) piece lent a b (together x q) (together y r) f g in
+step-in-place-one stage came count held piece lent x y a b q r f g =
+    let one = steps-one next whole header (λ m. m .payload) shown (holding stage came count held) piece lent a b (together x q) (together y r) f g in
     let same = shown-alike (together x q) (together y r) (one .0) in
     (ap apart same, ap (λ (s : Step). s .reader .held) same, one .1)
 

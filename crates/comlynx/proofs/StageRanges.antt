@@ -1,21 +1,23 @@
 -- The range of each stage, and what is known where a state is asked something.
 -- Assumes nothing.
-use Prim.Native.Nat.{ℕ, _≤_, _<_}
+use Prim.Native.Nat.{ℕ, _+_, _≤_, _<_}
 use mathlib.Core.Path.{_≡_, refl}
-use mathlib.Core.Bool.{Bool, true, false, cond}
+use mathlib.Core.Bool.{Bool, true, false, cond, _&&_}
 use lib.Dec.{eqb, ltb, leb}
 use borrow.Author.Tests.{le-leb, eq-eqb, ne-eqb, ltb-true, leb-true, eqb-true, eqb-false}
 use native.Mathlib.Omega.{arith}
 use Rattle.numbers.proofs.Alike.{zero-is-one}
+use Rattle.numbers.proofs.SameLists.{both}
 use Rattle.comlynx.specs.Wire.{flag, escape, bodyMax, flagPair, escapePair}
+use Rattle.comlynx.specs.Rules.{lostMax}
 use Rattle.comlynx.specs.Machine as Machine
-use Rattle.comlynx.specs.Machine.{tooMany, keepOf, advanceOf}
+use Rattle.comlynx.specs.Machine.{tooMany, more, keepOf, advanceOf}
 use Rattle.comlynx.specs.declared.reader.Move.{Move}
 use Rattle.comlynx.specs.declared.reader.Move.the-variants.{Skip, Open, Mark, Spoil, Keep, Over, Close, Fail}
 
-pub data Range (stage count : ℕ) : Type 0 where
-  outside : stage ≡ 0 → count ≡ 0 → Range stage count
-  within : 0 < stage → stage ≤ 3 → count ≤ tooMany → Range stage count
+pub data Range (stage came count : ℕ) : Type 0 where
+  outside : stage ≡ 0 → came ≡ 0 → count ≡ 0 → Range stage came count
+  within : 0 < stage → stage ≤ 3 → came ≤ lostMax → count ≤ tooMany → Range stage came count
 
 pub false-true : {A : Type 0} → false ≡ true → A
 false-true e = zero-is-one cc
@@ -23,23 +25,40 @@ false-true e = zero-is-one cc
 eqb-zero : (n : ℕ) → eqb n 0 ≡ false → 0 < n
 eqb-zero n e = omega (arith, eqb-false n 0 e)
 
-pub range-of : (stage count : ℕ) → Machine.inRange stage count ≡ true → Range stage count
+pub range-of : (stage came count : ℕ) → Machine.inRange stage came count ≡ true → Range stage came count
 unfolding Machine.inRange
-range-of stage count e = go (eqb stage 0) (leb stage 3) refl refl e
+range-of stage came count e = go (eqb stage 0) (leb stage 3) refl refl e
   where
-    go : (a b : Bool) → eqb stage 0 ≡ a → leb stage 3 ≡ b → cond a (eqb count 0) (cond b (leb count tooMany) false) ≡ true → Range stage count
-    go true b p q h = outside (eqb-true stage 0 p) (eqb-true count 0 h)
-    go false true p q h = within (eqb-zero stage p) (leb-true stage 3 q) (leb-true count tooMany h)
+    go : (a b : Bool) → eqb stage 0 ≡ a → leb stage 3 ≡ b → cond a (eqb came 0 && eqb count 0) (cond b (leb came lostMax && leb count tooMany) false) ≡ true
+        → Range stage came count
+    go true b p q h = let t = both (eqb came 0) (eqb count 0) h in outside (eqb-true stage 0 p) (eqb-true came 0 (t .0)) (eqb-true count 0 (t .1))
+    go false true p q h =
+        let t = both (leb came lostMax) (leb count tooMany) h in
+        within (eqb-zero stage p) (leb-true stage 3 q) (leb-true came lostMax (t .0)) (leb-true count tooMany (t .1))
     go false false p q h = false-true h
 
-pub in-range : (stage count : ℕ) → Range stage count → Machine.inRange stage count ≡ true
+pub in-range : (stage came count : ℕ) → Range stage came count → Machine.inRange stage came count ≡ true
 unfolding Machine.inRange
-in-range stage count (outside p q) = rw (eq-eqb stage 0 p, eq-eqb count 0 q)
-in-range stage count (within p q r) = rw (ne-eqb stage 0 (λ e. omega arith), le-leb stage 3 q, le-leb count tooMany r)
+in-range stage came count (outside p q r) = rw (eq-eqb stage 0 p, eq-eqb came 0 q, eq-eqb count 0 r)
+in-range stage came count (within p q r s) = rw (ne-eqb stage 0 (λ e. omega arith), le-leb stage 3 q, le-leb came lostMax r, le-leb count tooMany s)
 
-pub range-count : (stage count : ℕ) → Range stage count → count ≤ tooMany
-range-count stage count (outside p q) = omega arith
-range-count stage count (within p q r) = r
+pub range-came : (stage came count : ℕ) → Range stage came count → came ≤ lostMax
+range-came stage came count (outside p q r) = omega arith
+range-came stage came count (within p q r s) = r
+
+pub range-count : (stage came count : ℕ) → Range stage came count → count ≤ tooMany
+range-count stage came count (outside p q r) = omega arith
+range-count stage came count (within p q r s) = s
+
+-- ---- the bytes that have come
+
+pub more-most : (came n : ℕ) → more came n ≤ lostMax
+more-most came n = omega arith
+
+pub more-more : (came m n : ℕ) → more (more came m) n ≡ more came (m + n)
+more-more came m n = omega arith
+
+-- ---- what is asked
 
 -- what is known where a state is asked this: a byte is kept only where there is room
 abbrev pub Asked : ℕ → Move → Type 0
@@ -69,7 +88,7 @@ unfolding advanceOf
 asked stage n b =
     by-cond n (eqb stage 0) _ _ (by-cond n (eqb b flag) Open Skip tt tt)
     (by-cond n (eqb stage 1) _ _
-    (by-cond n (eqb b flag) _ _ (by-cond n (eqb n 0) Skip Close tt tt) (by-cond n (eqb b escape) Mark _ tt (keep-asked n b)))
+    (by-cond n (eqb b flag) _ _ (by-cond n (eqb n 0) Open Close tt tt) (by-cond n (eqb b escape) Mark _ tt (keep-asked n b)))
     (by-cond n (eqb stage 2) _ _
     (by-cond n (eqb b flag) Fail _ tt (by-cond n (eqb b flagPair) _ _ (keep-asked n flag) (by-cond n (eqb b escapePair) _ Spoil (keep-asked n escape) tt)))
-    (by-cond n (eqb b flag) Fail Skip tt tt)))
+    (by-cond n (eqb b flag) Fail Spoil tt tt)))

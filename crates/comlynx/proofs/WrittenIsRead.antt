@@ -17,7 +17,7 @@ use Rattle.stream.specs.Event.{Event, message}
 use Rattle.stream.specs.Rule.{Settled}
 use Rattle.stream.proofs.BytesOfParts.{bytes-cons, bytes-append}
 use Rattle.comlynx.specs.Wire.{Message, Takes, covered, body, messageOf, flag, stuffed, wire, payloadMax, bodyMax, bodyLeast}
-use Rattle.comlynx.specs.Rules.{sized, begins, judged, judgedBody, judge, within, before, rule}
+use Rattle.comlynx.specs.Rules.{sized, begins, judged, judgedBody, lostOf, judge, within, before, rule}
 use Rattle.comlynx.specs.Demands.{Stretch, special, Room}
 use Rattle.comlynx.proofs.UnstuffingUndoes.{unstuffed-stuffed, stuffed-stretch, stuffed-length, special-most, bytes-stuffed}
 
@@ -89,15 +89,15 @@ module _ (m : Message) where
   body-message : messageOf (body m) ≡ m
   body-message i = record { source = body-source i; destination = body-destination i; kind = body-kind i; payload = body-data i }
 
-  body-judged : length (m .payload) ≤ payloadMax → judged (length (body m)) (agrees (body m)) (body m) ≡ message m
+  body-judged : (lost : ℕ) → length (m .payload) ≤ payloadMax → judged lost (length (body m)) (agrees (body m)) (body m) ≡ message m
   unfolding judged
-  body-judged h =
+  body-judged lost h =
       let fits : sized (length (body m)) ≡ true = rw (le-leb bodyLeast (length (body m)) (omega (arith, body-length m)), le-leb (length (body m)) bodyMax (omega (arith, body-length m))) in
       rw (fits, body-starts, eq-eqb (getD (body m) 6 0) (length (body m) - bodyLeast) body-size, body-agrees) (ap message body-message)
 
   pub judge-body : length (m .payload) ≤ payloadMax → judge (stuffed (body m)) ≡ message m
   unfolding judge
-  judge-body h = ap judgedBody (unstuffed-stuffed (body m)) ∙ body-judged h
+  judge-body h = let lost = lostOf (stuffed (body m)) in ap (judgedBody lost) (unstuffed-stuffed (body m)) ∙ body-judged lost h
 
   -- ---- a frame
 

@@ -1,5 +1,5 @@
 -- ComLynx as a family, and what is demanded of it: as of every family, and what is its own.
-use Prim.Native.Nat.{ℕ, _+_, _≤_}
+use Prim.Native.Nat.{ℕ, min, _+_, _≤_}
 use mathlib.Core.Path.{_≡_}
 use mathlib.Core.Bool.{Bool, true, false, cond, _||_}
 use mathlib.Core.List.{List, [], _∷_, _++_}
@@ -7,7 +7,7 @@ use lib.ListN.{length}
 use lib.Dec.{eqb}
 use Rattle.answers.specs.Written.{lengthOf}
 use Rattle.answers.specs.declared.Written.{Written}
-use Rattle.stream.specs.Event.{Event}
+use Rattle.stream.specs.Event.{Event, damage}
 use Rattle.stream.specs.Call.{seenBy}
 use Rattle.stream.specs.Written.{Each}
 use Rattle.stream.specs.Rule.{Settled, readings}
@@ -69,6 +69,10 @@ abbrev pub ShownOnce : Type 0
 ShownOnce =
     (noise rest : List ℕ) (ws : List (List ℕ)) → Stretch noise → Stretch rest → Each Stretch ws
     → readings rule true false (noise ++ (flag ∷ (eachClosed ws ++ rest))) ≡ eachJudged (length noise + 1) ws
+
+-- HOW MUCH IS LOST: with each damage the bytes between the two flags, as they were sent; 65,535 stands for that or more
+abbrev pub Lost : Type 0
+Lost = (w : List ℕ) (n lost : ℕ) → judge w ≡ damage n lost → lost ≡ min (length w) 65535
 
 -- how many bytes stuffing adds
 abbrev pub special : List ℕ → ℕ

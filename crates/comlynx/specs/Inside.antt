@@ -13,8 +13,8 @@ use Rattle.stream.specs.Call.{retold}
 use Rattle.stream.specs.Pieces.{scan, scanFrom}
 use Rattle.stream.specs.Delivery as Delivery
 use Rattle.comlynx.specs.Wire.{Message, payloadMax, flag, escape, stuffed, bodyMax}
-use Rattle.comlynx.specs.Rules.{judged}
-use Rattle.comlynx.specs.Machine.{holding, inside, inRange, closed, next}
+use Rattle.comlynx.specs.Rules.{lostMax, judged}
+use Rattle.comlynx.specs.Machine.{holding, inside, more, inRange, closed, next}
 use Rattle.comlynx.specs.Reader.{told, header}
 use Rattle.comlynx.specs.declared.reader.Header.{Header}
 use Rattle.comlynx.specs.declared.reader.Answer.{Answer}
@@ -39,21 +39,22 @@ pub record Filled (count : ℕ) (held piece : List ℕ) (i j : ℕ) (later : Lis
   pub within : j ≤ length piece
   pub room : count + (j - i) ≤ bodyMax
   pub sized : length later ≡ length held
-  pub goes : scanFrom next (inside count held) piece i ≡ scanFrom next (inside (count + (j - i)) later) piece j
+  pub goes :
+      (came : ℕ) → came ≤ lostMax → scanFrom next (inside came count held) piece i ≡ scanFrom next (inside (more came (j - i)) (count + (j - i)) later) piece j
 
 -- the event that the end of a run is
 abbrev pub eventOf : End → List ℕ → Option (Event Message)
 eventOf UsedUp held = none
-eventOf (Closed count) held = some (closed count held)
-eventOf Broken held = some (damage 2)
+eventOf (Closed count came) held = some (closed came count held)
+eventOf (Broken came) held = some (damage 2 came)
 
 -- `run_in`: the scan of the piece, which ends in a state in range
-pub record Runs (stage count : ℕ) (held piece : List ℕ) (r : Ran) (later : List ℕ) : Type 0 where
+pub record Runs (stage came count : ℕ) (held piece : List ℕ) (r : Ran) (later : List ℕ) : Type 0 where
   pub sized : length later ≡ length held
-  pub ranged : inRange (r .stage) (r .count) ≡ true
+  pub ranged : inRange (r .stage) (r .came) (r .count) ≡ true
   pub scanned :
-      scan next (holding stage count held) piece
-      ≡ record { state = holding (r .stage) (r .count) later; event = eventOf (r .end) later; used = r .used }
+      scan next (holding stage came count held) piece
+      ≡ record { state = holding (r .stage) (r .came) (r .count) later; event = eventOf (r .end) later; used = r .used }
 
 -- the last two of the first `count` held bytes are those that are due
 abbrev pub due : ℕ → ℕ → ℕ → List ℕ → Bool
@@ -63,8 +64,8 @@ due count low high held = eqb (getD held (count - 2) 0) low && eqb (getD held (c
 abbrev pub JudgedAs : Option (Event Message) → Answer → Type 0
 JudgedAs event answer = told answer ≡ retold header (Event.outcome event)
 
-abbrev pub Judges : ℕ → ℕ → ℕ → List ℕ → Answer → Type 0
-Judges count low high held = JudgedAs (some (judged count (due count low high held) (take count held)))
+abbrev pub Judges : (count came low high : ℕ) → List ℕ → Answer → Type 0
+Judges count came low high held = JudgedAs (some (judged came count (due count low high held) (take count held)))
 
 -- `deliver`: a length that is told is one that a message has, and this is the lent buffer afterwards
 abbrev pub Small : Answer → Type 0

@@ -22,14 +22,14 @@ use Rattle.comlynx.specs.declared.reader.Answer.the-variants.{Done, Mess
 abbrev pub number : Answer → ℕ
 number Done = 0
 number (Read h) = 1
-number (Damaged what) = Damage.number what
+number (Damaged what lost) = Damage.number what
 number (Refused why) = Refusal.number why
 
--- and what is told by it: with 1 the header
+-- and what is told by it: with 1 the header, with a damage how many bytes were lost
 abbrev pub told : Answer → Told Header
 told Done = done
 told (Read h) = gives (message h)
-told (Damaged what) = gives (damage (Damage.number what))
+told (Damaged what lost) = gives (damage (Damage.number what) lost)
 told (Refused why) = refuses (Refusal.number why)
 
 abbrev pub shown : Step → Seen Reader Header
@@ -42,9 +42,9 @@ header m = record { source = m .source; destination = m .destination; kind = m .
 abbrev pub join : Header → List ℕ → Message
 join h later = record { source = h .source; destination = h .destination; kind = h .kind; payload = take (h .len) later }
 
--- stage and held count lie in that stage's range
+-- stage, bytes come and held count lie in that stage's range
 abbrev pub inRange : Reader → Bool
-inRange s = Machine.inRange (s .stage) (s .count)
+inRange s = Machine.inRange (s .stage) (s .came) (s .count)
 
 -- what `Reader::fresh` promises
 abbrev pub IsFresh : Reader → Type 0
@@ -61,10 +61,10 @@ whole = Call.whole (λ s. s .held) bodyMax inRange
 
 -- what it hands back is a step, with the held bytes put to it
 abbrev pub together : List ℕ → StepInPlace → Step
-together held r = record { reader = Machine.holding (r .stage) (r .count) held; answer = r .answer; used = r .used }
+together held r = record { reader = Machine.holding (r .stage) (r .came) (r .count) held; answer = r .answer; used = r .used }
 
 -- what `step_in_place` promises, of the parts, piece, lent buffer, result, and the held bytes and the buffer afterwards:
 -- what `step` promises of the state put together
-abbrev pub IsStepInPlace : ℕ → ℕ → List ℕ → List ℕ → List ℕ → StepInPlace → List ℕ → List ℕ → Type 0
-IsStepInPlace stage count held piece lent r heldLater later =
-    Steps Machine.next whole header (λ m. m .payload) shown (Machine.holding stage count held) piece lent (together heldLater r) later
+abbrev pub IsStepInPlace : (stage came count : ℕ) → List ℕ → List ℕ → List ℕ → StepInPlace → List ℕ → List ℕ → Type 0
+IsStepInPlace stage came count held piece lent r heldLater later =
+    Steps Machine.next whole header (λ m. m .payload) shown (Machine.holding stage came count held) piece lent (together heldLater r) later

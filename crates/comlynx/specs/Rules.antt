@@ -1,6 +1,6 @@
 -- Reading ComLynx, with no machine: from the bytes that remain, and whether a flag was just seen, the first message or damage, and the bytes used
 -- up to and with the flag that settles it.
-use Prim.Native.Nat.{ℕ, _+_, _-_}
+use Prim.Native.Nat.{ℕ, min, _+_, _-_}
 use mathlib.Core.Bool.{Bool, true, false, cond, _&&_}
 use mathlib.Core.Option.{Option, none, some}
 use mathlib.Core.List.{List, [], _∷_, _++_}
@@ -38,22 +38,29 @@ abbrev pub begins : List ℕ → Bool
 begins bs = eqb (getD bs 0 0) 0xFF && eqb (getD bs 1 0) 0x03
 
 -- what the body bs of n bytes comes to, `right` saying whether its checksum agrees: 10 to 265 bytes, else 3; it begins FF 03, else 4;
--- size equals its length less 10, else 5; the checksum agrees, else 6
-unfoldable pub judged : ℕ → Bool → List ℕ → Event Message
-judged n right bs =
-    need (sized n) (damage 3)
-    (need (begins bs) (damage 4)
-    (need (eqb (getD bs 6 0) (n - bodyLeast)) (damage 5)
-    (need right (damage 6)
+-- size equals its length less 10, else 5; the checksum agrees, else 6. A damage loses the stretch, `lost` bytes
+unfoldable pub judged : (lost n : ℕ) → Bool → List ℕ → Event Message
+judged lost n right bs =
+    need (sized n) (damage 3 lost)
+    (need (begins bs) (damage 4 lost)
+    (need (eqb (getD bs 6 0) (n - bodyLeast)) (damage 5 lost)
+    (need right (damage 6 lost)
     (message (messageOf bs)))))
 
 -- before all these: every 7D is followed inside the stretch by 5E or 5D, else 2
-abbrev pub judgedBody : Option (List ℕ) → Event Message
-judgedBody none = damage 2
-judgedBody (some bs) = judged (length bs) (agrees bs) bs
+abbrev pub judgedBody : (lost : ℕ) → Option (List ℕ) → Event Message
+judgedBody lost none = damage 2 lost
+judgedBody lost (some bs) = judged lost (length bs) (agrees bs) bs
+
+-- what is lost with a damage: the bytes between the two flags, as they were sent, 65,535 standing for that or more (document 02, Req 09)
+abbrev pub lostMax : ℕ
+lostMax = 65535
+
+abbrev pub lostOf : List ℕ → ℕ
+lostOf stretch = min (length stretch) lostMax
 
 unfoldable pub judge : List ℕ → Event Message
-judge stretch = judgedBody (unstuffed false stretch)
+judge stretch = judgedBody (lostOf stretch) (unstuffed false stretch)
 
 -- ---- one stretch after another, where `at` bytes were used before
 

@@ -17,7 +17,9 @@ ghost use mathlib.Core.Bool.{true};
 ghost use lib.ListN.{length};
 ghost use Rattle.stream.specs.Call.{lentLeast};
 ghost use Rattle.comlynx.specs.Rules.{sized, begins};
-ghost use Rattle.comlynx.specs.Machine.{keepOf, advanceOf, inRange};
+ghost use Rattle.answers.specs.declared.Damage.{Damage};
+ghost use Rattle.comlynx.specs.declared.reader.Answer.the-variants.{Damaged};
+ghost use Rattle.comlynx.specs.Machine.{more, keepOf, advanceOf, inRange};
 ghost use Rattle.comlynx.specs.Wire.{bodyMax};
 ghost use Rattle.comlynx.specs.Reader.{IsFresh, IsStep, IsStepInPlace};
 ghost use Rattle.comlynx.specs.Inside.{runLength, AllPlain, Filled, Runs, eventOf, due, Judges, JudgedAs, Small, given};
@@ -32,12 +34,14 @@ const SUM: usize = 2;
 
 const BODY: usize = HEADER + PAYLOAD + SUM;
 
-// What the bytes read so far have led to. Before the first flag `count` is 0. What `held` has from `count` on is left over and means nothing.
+// What the bytes read so far have led to. Before the first flag `came` and `count` are 0. What `held` has from `count` on is left over and means nothing.
 pub struct Reader {
     // the unstuffed bytes of the stretch, as far as they have come
     pub held: [u8; BODY],
     // BEFORE, INSIDE, ESCAPED or BROKEN
     pub stage: u8,
+    // how many bytes have come since the flag, as they were sent: LOST_MAX stands for that or more
+    pub came: u16,
     // how many bytes are held, in a stretch with a broken pair those before it; TOO_MANY where there were more than it holds
     pub count: usize,
 }
@@ -56,7 +60,8 @@ pub enum Answer {
     // the piece is used up
     Done,
     Message(Header),
-    Damaged(Damage),
+    // with how many bytes were lost
+    Damaged { what: Damage, lost: u16 },
     Refused(Refusal),
 }
 
@@ -70,6 +75,7 @@ pub struct Step {
 // What a call over lent held bytes hands back: the rest of the reader to go on with, the answer, and how many bytes of the piece were used.
 pub struct StepInPlace {
     pub stage: u8,
+    pub came: u16,
     pub count: usize,
     pub answer: Answer,
     pub used: usize,
@@ -87,6 +93,9 @@ const BROKEN: u8 = 3;
 // The count of a stretch that has more bytes than a body may have.
 const TOO_MANY: usize = Reader::BODY + 1;
 
+// The number of lost bytes that stands for itself or more.
+const LOST_MAX: u16 = 65535;
+
 // The two bytes that mean something, and what follows the escape where they are meant themselves.
 pub(crate) const FLAG: u8 = 0x7e;
 
@@ -101,28 +110,39 @@ pub(crate) const FIRST: u8 = 0xff;
 
 pub(crate) const SECOND: u8 = 0x03;
 
-// Whether stage and count are in the stage's range.
-fn in_range(stage: u8, count: usize) -> bool
-    ensures { λ r. ⌜ r ≡ inRange stage count ⌝ }
+// Whether stage, bytes come and count are in the stage's range. In a stretch `came` may be any number that its type has.
+fn in_range(stage: u8, came: u16, count: usize) -> bool
+    ensures { λ r. ⌜ r ≡ inRange stage came count ⌝ }
 {
     if stage == BEFORE {
-        return count == 0;
+        return (came == 0) & (count == 0);
     }
     if BROKEN < stage {
         return false;
     }
-    count <= TOO_MANY
+    (came <= LOST_MAX) & (count <= TOO_MANY)
+}
+
+// So many bytes more have come.
+fn plus(came: u16, n: usize) -> u16
+    ensures { λ r. ⌜ r ≡ more came n ⌝ }
+{
+    let room = (LOST_MAX - came) as usize;
+    if room < n {
+        return LOST_MAX;
+    }
+    came + n as u16
 }
 
 // What one byte asks of the reader.
 enum Move {
     // nothing
     Skip,
-    // a stretch begins
+    // a stretch begins, or begins again where nothing has come
     Open,
     // the escape
     Mark,
-    // a broken pair
+    // a broken pair, or a byte after one
     Spoil,
     // one more byte of the body
     Keep(u8),
@@ -158,7 +178,7 @@ fn advance(stage: u8, count: usize, b: u8) -> Move
     if stage == INSIDE {
         if b == FLAG {
             if count == 0 {
-                return Move::Skip;
+                return Move::Open;
             }
             return Move::Close;
         }
@@ -182,21 +202,22 @@ fn advance(stage: u8, count: usize, b: u8) -> Move
     if b == FLAG {
         return Move::Fail;
     }
-    Move::Skip
+    Move::Spoil
 }
 
 // How a run over a piece ended.
 enum End {
     UsedUp,
-    // at the flag that closes a stretch of so many unstuffed bytes
-    Closed(usize),
-    // at the flag that closes a stretch with a broken pair
-    Broken,
+    // at the flag that closes a stretch of so many unstuffed bytes, for which so many came
+    Closed { count: usize, came: u16 },
+    // at the flag that closes a stretch with a broken pair, for which so many bytes came
+    Broken { came: u16 },
 }
 
 // What a run hands back beside the held bytes.
 struct Ran {
     stage: u8,
+    came: u16,
     count: usize,
     used: usize,
     end: End,
@@ -283,11 +304,12 @@ fn fill(count: usize, held: &mut [u8], piece: &[u8], from: usize) -> usize
 
 // The piece, byte by byte, up to the flag that settles something or the end of the piece. It knows no checksum.
 // It is long because each move has its arm here: a call from an arm would have to lend the whole state.
-fn run_in(stage: u8, count: usize, held: &mut [u8], piece: &[u8]) -> Ran
-    requires { ⌜ (inRange stage count ≡ true) × (length (now held) ≡ bodyMax) ⌝ }
-    ensures { λ r. ⌜ Runs stage count (now (held .entry)) (now (piece .entry)) r (now (held .exit)) ⌝ }
+fn run_in(stage: u8, came: u16, count: usize, held: &mut [u8], piece: &[u8]) -> Ran
+    requires { ⌜ (inRange stage came count ≡ true) × (length (now held) ≡ bodyMax) ⌝ }
+    ensures { λ r. ⌜ Runs stage came count (now (held .entry)) (now (piece .entry)) r (now (held .exit)) ⌝ }
 {
     let mut stage = stage;
+    let mut came = came;
     let mut count = count;
     let mut i: usize = 0;
     while i < piece.len() {
@@ -298,39 +320,46 @@ fn run_in(stage: u8, count: usize, held: &mut [u8], piece: &[u8]) -> Ran
             Move::Skip => {}
             Move::Open => {
                 stage = INSIDE;
+                came = 0;
                 count = 0;
             }
             Move::Mark => {
                 stage = ESCAPED;
+                came = plus(came, 1);
             }
             Move::Spoil => {
                 stage = BROKEN;
+                came = plus(came, 1);
             }
             Move::Keep(v) => {
                 held[count] = v;
                 let next = count + 1;
                 let j = fill(next, held, piece, i);
                 stage = INSIDE;
+                came = plus(came, 1 + (j - i));
                 count = next + (j - i);
                 i = j;
             }
             Move::Over => {
                 stage = INSIDE;
+                came = plus(came, 1);
                 count = TOO_MANY;
             }
             Move::Close => {
-                let end = End::Closed(count);
+                let end = End::Closed { count, came };
                 return Ran {
                     stage: INSIDE,
+                    came: 0,
                     count: 0,
                     used: i,
                     end,
                 };
             }
             Move::Fail => {
-                let end = End::Broken;
+                let end = End::Broken { came };
                 return Ran {
                     stage: INSIDE,
+                    came: 0,
                     count: 0,
                     used: i,
                     end,
@@ -341,6 +370,7 @@ fn run_in(stage: u8, count: usize, held: &mut [u8], piece: &[u8]) -> Ran
     let end = End::UsedUp;
     Ran {
         stage,
+        came,
         count,
         used: i,
         end,
@@ -377,23 +407,30 @@ fn covered(count: usize) -> usize
     if count < SUM { 0 } else { count - SUM }
 }
 
-// The checks of a closed stretch in order, by its `count` unstuffed bytes and the two checksum bytes that are due.
-fn judge_frame(count: usize, low: u8, high: u8, held: &[u8]) -> Answer
+// A damage of a stretch for which `lost` bytes came.
+fn damaged(what: Damage, lost: u16) -> Answer
+    ensures { λ r. ⌜ r ≡ Damaged what lost ⌝ }
+{
+    Answer::Damaged { what, lost }
+}
+
+// The checks of a closed stretch in order, by its `count` unstuffed bytes and the two checksum bytes that are due. `came` bytes are lost if one fails.
+fn judge_frame(count: usize, came: u16, low: u8, high: u8, held: &[u8]) -> Answer
     requires { ⌜ length (now held) ≡ bodyMax ⌝ }
-    ensures { λ r. ⌜ Judges count low high (now (held .entry)) r ⌝ }
+    ensures { λ r. ⌜ Judges count came low high (now (held .entry)) r ⌝ }
 {
     if !sized(count) {
-        return Answer::Damaged(Damage::WrongBodyLength);
+        return damaged(Damage::WrongBodyLength, came);
     }
     if !begins(held) {
-        return Answer::Damaged(Damage::WrongStart);
+        return damaged(Damage::WrongStart, came);
     }
     let len = count - Reader::HEADER - SUM;
     if wide(held[6]) != len {
-        return Answer::Damaged(Damage::WrongSize);
+        return damaged(Damage::WrongSize, came);
     }
     if !ends(count, low, high, held) {
-        return Answer::Damaged(Damage::WrongSum);
+        return damaged(Damage::WrongSum, came);
     }
     let source = word(held[2], held[3]);
     let destination = word(held[4], held[5]);
@@ -413,12 +450,12 @@ fn judge(end: End, held: &[u8]) -> Answer
 {
     match end {
         End::UsedUp => Answer::Done,
-        End::Closed(n) => {
-            let sum = comlynx_checksum::of_first(held, covered(n));
+        End::Closed { count, came } => {
+            let sum = comlynx_checksum::of_first(held, covered(count));
             let due = comlynx_checksum::sent_of(sum);
-            judge_frame(n, due.low, due.high, held)
+            judge_frame(count, came, due.low, due.high, held)
         }
-        End::Broken => Answer::Damaged(Damage::BrokenPair),
+        End::Broken { came } => damaged(Damage::BrokenPair, came),
     }
 }
 
@@ -434,7 +471,7 @@ fn deliver(answer: Answer, held: &[u8], lent: &mut [u8])
             bytes::copy(&held[Reader::HEADER..end], lent);
         }
         Answer::Done => {}
-        Answer::Damaged(_) => {}
+        Answer::Damaged { what: _, lost: _ } => {}
         Answer::Refused(_) => {}
     }
 }
@@ -443,18 +480,20 @@ fn deliver(answer: Answer, held: &[u8], lent: &mut [u8])
 // them, so any other number of them is a spoilt state.
 pub fn step_in_place(
     stage: u8,
+    came: u16,
     count: usize,
     held: &mut [u8],
     piece: &[u8],
     lent: &mut [u8],
 ) -> StepInPlace
-    ensures { λ r. ⌜ IsStepInPlace stage count (now (held .entry)) (now (piece .entry)) (now (lent .entry)) r (now (held .exit)) (now (lent .exit)) ⌝ }
+    ensures { λ r. ⌜ IsStepInPlace stage came count (now (held .entry)) (now (piece .entry)) (now (lent .entry)) r (now (held .exit)) (now (lent .exit)) ⌝ }
 {
-    let whole = (held.len() == BODY) & in_range(stage, count);
+    let whole = (held.len() == BODY) & in_range(stage, came, count);
     if !whole {
         let answer = Answer::Refused(Refusal::Spoilt);
         return StepInPlace {
             stage,
+            came,
             count,
             answer,
             used: 0,
@@ -464,17 +503,19 @@ pub fn step_in_place(
         let answer = Answer::Refused(Refusal::NoRoom);
         return StepInPlace {
             stage,
+            came,
             count,
             answer,
             used: 0,
         };
     }
-    let ran = run_in(stage, count, held, piece);
+    let ran = run_in(stage, came, count, held, piece);
     let end = ran.end;
     let answer = judge(end, &*held);
     deliver(answer, &*held, lent);
     StepInPlace {
         stage: ran.stage,
+        came: ran.came,
         count: ran.count,
         answer,
         used: ran.used,
@@ -498,6 +539,7 @@ impl Reader {
         Reader {
             held: [0; BODY],
             stage: BEFORE,
+            came: 0,
             count: 0,
         }
     }
@@ -507,10 +549,11 @@ impl Reader {
         ensures { λ r. ⌜ IsStep self (now (piece .entry)) (now (lent .entry)) r (now (lent .exit)) ⌝ }
     {
         let mut held = self.held;
-        let s = step_in_place(self.stage, self.count, &mut held, piece, lent);
+        let s = step_in_place(self.stage, self.came, self.count, &mut held, piece, lent);
         let reader = Reader {
             held,
             stage: s.stage,
+            came: s.came,
             count: s.count,
         };
         let answer = s.answer;

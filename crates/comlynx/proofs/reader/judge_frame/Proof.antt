@@ -43,19 +43,29 @@ read c = rw (c .before .before .before .before .word .ensures, c .before .word2 
 sized-requires : tie.Need-sized-requires
 sized-requires c κs = search needs
 
+damaged-requires : tie.Need-damaged-requires
+damaged-requires c κs = search needs
+
 returns : tie.Need-returns
-returns c =
+returns d =
+    let c = d .before in
     let s = c .before .before .before in
-    judged-length (s .args .count) (s .args .low) (s .args .high) (s .args .held .now) (s .pre) (sym (c .before .sized .ensures) ∙ not-true _ (c .if1 .taken))
+    ap told (d .damaged .ensures)
+    ∙ judged-length (s .args .count) (s .args .came) (s .args .low) (s .args .high) (s .args .held .now) (s .pre) (sym (c .before .sized .ensures) ∙ not-true _ (c .if1 .taken))
 
 begins-requires : tie.Need-begins-requires
 begins-requires c κs = search needs
 
+damaged-requires-2 : tie.Need-damaged-requires-2
+damaged-requires-2 c κs = search needs
+
 returns-2 : tie.Need-returns-2
-returns-2 c =
+returns-2 d =
+    let c = d .before in
     let k = c .before .before in
     let s = start k in
-    judged-start (s .args .count) (s .args .low) (s .args .high) (s .args .held .now) (s .pre) (fits k) (sym (c .before .begins .ensures) ∙ not-true _ (c .if2 .taken))
+    ap told (d .damaged2 .ensures)
+    ∙ judged-start (s .args .count) (s .args .came) (s .args .low) (s .args .high) (s .args .held .now) (s .pre) (fits k) (sym (c .before .begins .ensures) ∙ not-true _ (c .if2 .taken))
 
 sub-len : tie.Need-sub-len
 sub-len c = let b = bounds (c .before .before) in omega arith
@@ -69,11 +79,16 @@ shared-slice-read-wide c = search needs
 wide-requires : tie.Need-wide-requires
 wide-requires c κs = search needs
 
+damaged-requires-3 : tie.Need-damaged-requires-3
+damaged-requires-3 c κs = search needs
+
 returns-3 : tie.Need-returns-3
-returns-3 c =
+returns-3 d =
+    let c = d .before in
     let k = c .before .before .before in
     let s = start (k .before .before) in
-    judged-size (s .args .count) (s .args .low) (s .args .high) (s .args .held .now) (s .pre) (fits (k .before .before)) (starts k) (λ e. c .if3 .taken (c .before .wide .ensures ∙ e ∙ less-ten (s .args .count)))
+    ap told (d .damaged3 .ensures)
+    ∙ judged-size (s .args .count) (s .args .came) (s .args .low) (s .args .high) (s .args .held .now) (s .pre) (fits (k .before .before)) (starts k) (λ e. c .if3 .taken (c .before .wide .ensures ∙ e ∙ less-ten (s .args .count)))
 
 ends-requires : tie.Need-ends-requires
 ends-requires c κs =
@@ -81,12 +96,17 @@ ends-requires c κs =
     let b = bounds k in
     (omega arith, b .1, start k .pre)
 
+damaged-requires-4 : tie.Need-damaged-requires-4
+damaged-requires-4 c κs = search needs
+
 returns-4 : tie.Need-returns-4
-returns-4 c =
+returns-4 d =
+    let c = d .before in
     let k = c .before .before in
     let j = k .before .before .before in
     let s = start (j .before .before) in
-    judged-sum (s .args .count) (s .args .low) (s .args .high) (s .args .held .now) (s .pre) (fits (j .before .before)) (starts j) (size k) (sym (c .before .ends .ensures) ∙ not-true _ (c .if4 .taken))
+    ap told (d .damaged4 .ensures)
+    ∙ judged-sum (s .args .count) (s .args .came) (s .args .low) (s .args .high) (s .args .held .now) (s .pre) (fits (j .before .before)) (starts j) (size k) (sym (c .before .ends .ensures) ∙ not-true _ (c .if4 .taken))
 
 shared-slice-read-word : tie.Need-shared-slice-read-word
 shared-slice-read-word c = search needs
@@ -106,8 +126,8 @@ shared-slice-read-word-4 c = search needs
 word-requires-2 : tie.Need-word-requires-2
 word-requires-2 c κs = search needs
 
-shared-slice-read-t15 : tie.Need-shared-slice-read-t15
-shared-slice-read-t15 c = search needs
+shared-slice-read-t16 : tie.Need-shared-slice-read-t16
+shared-slice-read-t16 c = search needs
 
 returns-5 : tie.Need-returns-5
 returns-5 c =
@@ -115,22 +135,26 @@ returns-5 c =
     let k = q .before .before in
     let j = k .before .before .before in
     let s = start (j .before .before) in
-    ap (λ (h : Header). told (Read h)) (read c) ∙ judged-message (s .args .count) (s .args .low) (s .args .high) (s .args .held .now) (s .pre) (fits (j .before .before)) (starts j) (size k) (sym (q .before .ends .ensures) ∙ not-false _ (q .if4 .left))
+    ap (λ (h : Header). told (Read h)) (read c) ∙ judged-message (s .args .count) (s .args .came) (s .args .low) (s .args .high) (s .args .held .now) (s .pre) (fits (j .before .before)) (starts j) (size k) (sym (q .before .ends .ensures) ∙ not-false _ (q .if4 .left))
 
 pub judge-frame-spec : {M : Type 1} → statement M
 judge-frame-spec =
     tie.close
     (tie.spec
     sized-requires
+    damaged-requires
     returns
     begins-requires
+    damaged-requires-2
     returns-2
     sub-len
     sub-len-2
     shared-slice-read-wide
     wide-requires
+    damaged-requires-3
     returns-3
     ends-requires
+    damaged-requires-4
     returns-4
     shared-slice-read-word
     shared-slice-read-word-2
@@ -138,5 +162,5 @@ judge-frame-spec =
     shared-slice-read-word-3
     shared-slice-read-word-4
     word-requires-2
-    shared-slice-read-t15
+    shared-slice-read-t16
     returns-5)

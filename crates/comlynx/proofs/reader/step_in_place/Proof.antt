@@ -27,7 +27,7 @@ abbrev begun : tie.After-in-range → tie.Start
 begun c = c .before .before .before .before
 
 abbrev state : tie.Start → Reader
-state c = holding (c .args .stage) (c .args .count) (c .args .held .now)
+state c = holding (c .args .stage) (c .args .came) (c .args .count) (c .args .held .now)
 
 tested : (c : tie.After-in-range) → whole (state (begun c)) ≡ (eqb (length (begun c .args .held .now)) bodyMax && c .in-range .result)
 tested c = ap (λ (b : Bool). eqb (length (begun c .args .held .now)) bodyMax && b) (sym (c .in-range .ensures))
@@ -43,10 +43,10 @@ abbrev start : tie.After-run-in → tie.Start
 start c = begun (c .before .before .before .before)
 
 abbrev held : tie.After-run-in → List ℕ
-held c = c .run-in .last .1 .1 .0
+held c = c .run-in .last .1 .1 .1 .0
 
 abbrev after : tie.After-run-in → Reader
-after c = holding (c .run-in .result .stage) (c .run-in .result .count) (held c)
+after c = holding (c .run-in .result .stage) (c .run-in .result .came) (c .run-in .result .count) (held c)
 
 full : (c : tie.After-run-in) → length (held c) ≡ bodyMax
 full c = c .run-in .ensures .sized ∙ all-there (c .before .before .before) .0
