@@ -77,7 +77,7 @@ cases =
     -- P3: off-line query, written and read; with its sum low byte first it is a damage
     ∷ case 3 (EversolarWire.wire (EversolarRequests.askAll OffLine)) (0xAA ∷ 0x55 ∷ 0x01 ∷ 0x00 ∷ 0x00 ∷ 0x00 ∷ 0x10 ∷ 0x00 ∷ 0x00 ∷ 0x01 ∷ 0x10 ∷ [])
     ∷ case 3 (EversolarRules.rule tt (0xAA ∷ 0x55 ∷ 0x01 ∷ 0x00 ∷ 0x00 ∷ 0x00 ∷ 0x10 ∷ 0x00 ∷ 0x00 ∷ 0x01 ∷ 0x10 ∷ [])) (reads offLineQuery 11)
-    ∷ case 3 (EversolarRules.rule tt (0xAA ∷ 0x55 ∷ 0x01 ∷ 0x00 ∷ 0x00 ∷ 0x00 ∷ 0x10 ∷ 0x00 ∷ 0x00 ∷ 0x10 ∷ 0x01 ∷ [])) (some (record { event = damage 6; used = 11 }))
+    ∷ case 3 (EversolarRules.rule tt (0xAA ∷ 0x55 ∷ 0x01 ∷ 0x00 ∷ 0x00 ∷ 0x00 ∷ 0x10 ∷ 0x00 ∷ 0x00 ∷ 0x10 ∷ 0x01 ∷ [])) (some (record { event = damage 6 11; used = 11 }))
     -- data words are the same way round: 00 01 and 30 3B as items 20 and 21 are 77,883 tenths of a kWh
     ∷ case 3 (EversolarEnergy.energyOf 0x11 0x90 (replicate 40 0x00 ++ (0x00 ∷ 0x01 ∷ 0x30 ∷ 0x3B ∷ []))) (answer 0 (77_883 ∷ []))
     -- P4: get version, written and read

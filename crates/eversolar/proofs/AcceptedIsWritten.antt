@@ -26,7 +26,7 @@ use Rattle.eversolar.specs.Demands.{eversolar}
 abbrev Borne : List ℕ → List ℕ → ℕ → Settled (Event Message) → Type 0
 Borne = Bears eversolar []
 
-abbrev start : List ℕ
+abbrev pub start : List ℕ
 start = firstMark ∷ secondMark ∷ []
 
 -- ---- a frame: what stands behind AA 55
@@ -107,7 +107,7 @@ module _ (bs : List ℕ) (long : 9 + getD bs 6 0 ≤ length bs) (g : T (areBytes
   whole at = record { count = 9 + n; used = refl; borne = go (eqb (word first second) (checksum (earlierOf six n payload))) refl; ends = ends-nothing _ }
     where
       go : (t : Bool) → eqb (word first second) (checksum (earlierOf six n payload)) ≡ t
-          → BorneOut eversolar (start ++ take (9 + n) bs) (gives (cond t (message (messageOf six payload)) (damage 6)))
+          → BorneOut eversolar (start ++ take (9 + n) bs) (gives (cond t (message (messageOf six payload)) (damage 6 (11 + n))))
       go true e = (takes, record { front = []; joins = stands (eqb-true _ _ e) })
       go false e = tt
 
@@ -128,7 +128,7 @@ both : (s t : Bool) → s && t ≡ true → (s ≡ true) × (t ≡ true)
 both true t e = (refl, e)
 both false t e = zero-is-one cc
 
-opened : (b : ℕ) (bs : List ℕ) → opens (b ∷ bs) ≡ true → b ∷ bs ≡ start ++ drop 1 bs
+pub opened : (b : ℕ) (bs : List ℕ) → opens (b ∷ bs) ≡ true → b ∷ bs ≡ start ++ drop 1 bs
 opened b bs e =
     let x = both (eqb b firstMark) (eqb (getD bs 0 0) secondMark) e in
     ap₂ (λ (k : ℕ) (l : List ℕ). k ∷ l) (eqb-true b firstMark (x .0)) (one bs (eqb-true _ _ (x .1)))

@@ -30,7 +30,7 @@ use Rattle.eversolar.specs.declared.reader.End.the-variants.{UsedUp, Clo
 pub number-told : (a : Answer) → number a ≡ Event.number (told a)
 number-told Done = refl
 number-told (Read h) = refl
-number-told (Damaged what) = refl
+number-told (Damaged what lost) = refl
 number-told (Refused why) = refl
 
 -- the header that is read off the held bytes
@@ -69,7 +69,7 @@ module _ (len : ℕ) (held : List ℕ) (room : 7 + len ≤ length held) where
   unfolding judged
   judged-right last e = rw (eq-eqb (cameSum len last held) (rightSum len held) e) (ap (λ (h : Header). gives (message h)) (sym held-header))
 
-  pub judged-wrong : (last : ℕ) → (cameSum len last held ≡ rightSum len held → ⊥) → JudgedAs (judgedFrame len last held) (Damaged WrongSum)
+  pub judged-wrong : (last : ℕ) → (cameSum len last held ≡ rightSum len held → ⊥) → JudgedAs (judgedFrame len last held) (Damaged WrongSum (11 + len))
   unfolding judged
   judged-wrong last n = rw (ne-eqb (cameSum len last held) (rightSum len held) n)
 
@@ -83,7 +83,7 @@ unfolding judged
 end-delivers UsedUp held lent f l = (tt, refl)
 end-delivers (Closed len last) held lent f l = go (eqb (cameSum len last held) (rightSum len held))
   where
-    go : (t : Bool) → DeliversTo held lent (gives (cond t (message (heldMessage len held)) (damage 6)))
+    go : (t : Bool) → DeliversTo held lent (gives (cond t (message (heldMessage len held)) (damage 6 (11 + len))))
     go true =
         let n = held-length len held (omega arith) in
         delivers-held header (λ m. m .payload) (λ h. h .len) payloadMax 7 held lent (heldMessage len held) (omega (arith, n)) (ap (λ (k : ℕ). take k (drop 7 held)) n)

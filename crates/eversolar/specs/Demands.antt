@@ -1,9 +1,15 @@
--- Eversolar as a family, and what is demanded of it.
+-- Eversolar as a family, and what is demanded of it: as of every family, and what is its own.
+use Prim.Native.Nat.{ℕ, _+_}
+use mathlib.Core.Path.{_≡_}
+use mathlib.Core.Option.{some}
+use mathlib.Core.List.{List, [], _∷_}
+use lib.ListN.{length, take, getD}
 use Rattle.answers.specs.Written.{lengthOf}
 use Rattle.answers.specs.declared.Written.{Written}
+use Rattle.stream.specs.Event.{damage}
 use Rattle.stream.specs.Call.{seenBy}
 use Rattle.stream.specs.Family.{Family}
-use Rattle.stream.specs.Demands.{Demands}
+use Rattle.stream.specs.Demands.{Demands, EndsWith}
 use Rattle.eversolar.specs.Wire.{Message, Takes, wire}
 use Rattle.eversolar.specs.Rules.{rule}
 use Rattle.eversolar.specs.Machine.{fresh}
@@ -34,3 +40,17 @@ eversolar = record {
 -- WHAT IS DEMANDED OF EVERSOLAR: demands 1 to 3 of document 01, each a field of `Demands`, over the rule, the writer and the reader above
 abbrev pub Demanded : Type 0
 Demanded = Demands eversolar
+
+-- ---- its own
+
+-- a frame that is lost with a damage, which is a 6: all of it, 11 plus N, and its length N is its ninth byte
+pub record LostWith (n lost : ℕ) (frame : List ℕ) : Type 0 where
+  pub starts : take 2 frame ≡ 0xAA ∷ 0x55 ∷ []
+  pub counted : length frame ≡ lost
+  pub numbered : (n ≡ 6) × (lost ≡ 11 + getD frame 8 0)
+
+-- WHAT A DAMAGE LOSES: the bytes used up to then end with a frame that is lost, whatever came before
+abbrev pub Lost : Type 0
+Lost =
+    (bs : List ℕ) (n lost p : ℕ) → rule tt bs ≡ some (record { event = damage n lost; used = p })
+    → (frame : List ℕ) × LostWith n lost frame × EndsWith frame (take p bs)

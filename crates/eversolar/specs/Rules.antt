@@ -11,10 +11,11 @@ use Rattle.stream.specs.Rule.{Settled}
 use Rattle.eversolar_words.specs.Words.{word}
 use Rattle.eversolar.specs.Wire.{Message, firstMark, secondMark, earlierOf, checksum, messageOf}
 
--- what a frame comes to, by the six bytes, N, the data and the checksum that came: the sum is right, else 6
+-- what a frame comes to, by the six bytes, N, the data and the checksum that came: the sum is right, else 6, and the whole
+-- frame is lost, 11 plus N
 unfoldable pub judged : List ℕ → ℕ → List ℕ → ℕ → Event Message
 judged six n payload sum =
-    need (eqb sum (checksum (earlierOf six n payload))) (damage 6)
+    need (eqb sum (checksum (earlierOf six n payload))) (damage 6 (11 + n))
     (message (messageOf six payload))
 
 -- where `at` bytes came before, up to and with AA 55: six bytes, N, N data bytes and the checksum, once they are all there

@@ -76,7 +76,8 @@ pub enum Answer {
     // the piece is used up
     Done,
     Message(Header),
-    Damaged(Damage),
+    // what is wrong, and how many bytes are lost with it
+    Damaged { what: Damage, lost: u16 },
     Refused(Refusal),
 }
 
@@ -327,7 +328,12 @@ fn judge_frame(len: usize, last: u8, held: &[u8]) -> Answer
 {
     let came = word(held[PAYLOAD_AT + len], last);
     if came != checksum_of(len, held) {
-        return Answer::Damaged(Damage::WrongSum);
+        // the whole frame
+        let lost = (11 + len) as u16;
+        return Answer::Damaged {
+            what: Damage::WrongSum,
+            lost,
+        };
     }
     let header = Header {
         source_first: held[0],
@@ -364,7 +370,7 @@ fn deliver(answer: Answer, held: &[u8], lent: &mut [u8])
             bytes::copy(&held[PAYLOAD_AT..end], lent);
         }
         Answer::Done => {}
-        Answer::Damaged(_) => {}
+        Answer::Damaged { what: _, lost: _ } => {}
         Answer::Refused(_) => {}
     }
 }

@@ -27,16 +27,19 @@ word-requires c κs = search needs
 checksum-of-requires : tie.Need-checksum-of-requires
 checksum-of-requires c κs = search needs
 
+add-lost : tie.Need-add-lost
+add-lost c = search needs
+
+cast-lost : tie.Need-cast-lost
+cast-lost c = search needs
+
 returns : tie.Need-returns
 returns c =
     let a = start (c .before) .args in
     judged-wrong (a .len) (a .held .now) (omega arith) (a .last) (λ e. c .if1 .taken (came (c .before) ∙ e ∙ sym (right (c .before))))
 
-shared-slice-read-t8 : tie.Need-shared-slice-read-t8
-shared-slice-read-t8 c = search needs
-
-shared-slice-read-t14 : tie.Need-shared-slice-read-t14
-shared-slice-read-t14 c = search needs
+shared-slice-read-t9 : tie.Need-shared-slice-read-t9
+shared-slice-read-t9 c = search needs
 
 shared-slice-read-t16 : tie.Need-shared-slice-read-t16
 shared-slice-read-t16 c = search needs
@@ -49,6 +52,9 @@ shared-slice-read-t20 c = search needs
 
 shared-slice-read-t22 : tie.Need-shared-slice-read-t22
 shared-slice-read-t22 c = search needs
+
+shared-slice-read-t24 : tie.Need-shared-slice-read-t24
+shared-slice-read-t24 c = search needs
 
 returns-2 : tie.Need-returns-2
 returns-2 c =
@@ -64,11 +70,13 @@ judge-frame-spec =
     shared-slice-read-word
     word-requires
     checksum-of-requires
+    add-lost
+    cast-lost
     returns
-    shared-slice-read-t8
-    shared-slice-read-t14
+    shared-slice-read-t9
     shared-slice-read-t16
     shared-slice-read-t18
     shared-slice-read-t20
     shared-slice-read-t22
+    shared-slice-read-t24
     returns-2)
