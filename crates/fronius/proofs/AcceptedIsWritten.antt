@@ -25,7 +25,7 @@ abbrev Borne : List ℕ → List ℕ → ℕ → Settled (Event Message) → Typ
 Borne = Bears fronius []
 
 -- three 80
-abbrev start : List ℕ
+abbrev pub start : List ℕ
 start = mark ∷ mark ∷ mark ∷ []
 
 -- ---- a frame: w its body, `sum` the checksum that came
@@ -73,7 +73,7 @@ module _ (len : ℕ) (bs : List ℕ) (small : len ≤ payloadMax) (long : len + 
   unfolding judged
   whole at = record { count = len + 4; used = refl; borne = go (eqb sum (checksum (len ∷ w))) refl; ends = ends-nothing _ }
     where
-      go : (t : Bool) → eqb sum (checksum (len ∷ w)) ≡ t → BorneOut fronius (start ++ (len ∷ take (len + 4) bs)) (gives (cond t (message (messageOf w)) (damage 6)))
+      go : (t : Bool) → eqb sum (checksum (len ∷ w)) ≡ t → BorneOut fronius (start ++ (len ∷ take (len + 4) bs)) (gives (cond t (message (messageOf w)) (damage 6 (8 + len))))
       go true e = (takes, record { front = []; joins = stands (eqb-true sum (checksum (len ∷ w)) e) })
       go false e = tt
 
@@ -107,7 +107,7 @@ both true t e = (refl, e)
 both false t e = zero-is-one cc
 
 -- three 80 stand at the front
-opened : (b : ℕ) (bs : List ℕ) → starts (b ∷ bs) ≡ true → b ∷ bs ≡ start ++ drop 2 bs
+pub opened : (b : ℕ) (bs : List ℕ) → starts (b ∷ bs) ≡ true → b ∷ bs ≡ start ++ drop 2 bs
 opened b bs e =
     let x = both (eqb b mark) _ e in
     let y = both (eqb (getD bs 0 0) mark) (eqb (getD bs 1 0) mark) (x .1) in

@@ -30,7 +30,7 @@ use Rattle.fronius.specs.declared.reader.End.the-variants.{UsedUp, Close
 pub number-told : (a : Answer) → number a ≡ Event.number (told a)
 number-told Done = refl
 number-told (Read h) = refl
-number-told (Damaged what) = refl
+number-told (Damaged what lost) = refl
 number-told (Refused why) = refl
 
 -- the header that is read off the held bytes
@@ -53,7 +53,7 @@ module _ (len : ℕ) (held : List ℕ) (room : 3 + len ≤ length held) where
   unfolding judged
   judged-right sum e = rw (eq-eqb sum (checksum (len ∷ take (3 + len) held)) e) (ap (λ (h : Header). gives (message h)) (sym held-header))
 
-  pub judged-wrong : (sum : ℕ) → (sum ≡ checksum (len ∷ take (3 + len) held) → ⊥) → JudgedAs (judgedFrame len sum held) (Damaged WrongSum)
+  pub judged-wrong : (sum : ℕ) → (sum ≡ checksum (len ∷ take (3 + len) held) → ⊥) → JudgedAs (judgedFrame len sum held) (Damaged WrongSum (8 + len))
   unfolding judged
   judged-wrong sum n = rw (ne-eqb sum (checksum (len ∷ take (3 + len) held)) n)
 
@@ -67,7 +67,7 @@ unfolding judged
 end-delivers UsedUp held lent f l = (tt, refl)
 end-delivers (Closed len sum) held lent f l = go (eqb sum (checksum (len ∷ take (3 + len) held)))
   where
-    go : (t : Bool) → DeliversTo held lent (gives (cond t (message (messageOf (take (3 + len) held))) (damage 6)))
+    go : (t : Bool) → DeliversTo held lent (gives (cond t (message (messageOf (take (3 + len) held))) (damage 6 (8 + len))))
     go true =
         let n = held-length len held (omega arith) in
         delivers-held header (λ m. m .payload) (λ h. h .len) payloadMax 3 held lent (messageOf (take (3 + len) held)) (omega (arith, n))

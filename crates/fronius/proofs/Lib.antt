@@ -5,6 +5,7 @@ pub mod JudgedIsDelivered
 pub mod WriterWritesFrame
 pub mod MachineFollowsRule
 pub mod AcceptedIsWritten
+pub mod LostAreLast
 pub mod ResultsExist
 pub mod FamilyFacts
 pub mod Demands

@@ -89,7 +89,7 @@ length-found at h [] f = finds-end next Rests at (counting 3 h)
 length-found at h (b ∷ bs) f = go (eqb b mark) (ltb mark b) refl refl (length-found (at + 1) h bs f)
   where
     go : (t u : Bool) → eqb b mark ≡ t → ltb mark b ≡ u → Finds next Rests (at + 1) (sized (at + 1) bs) (counting 3 h) bs
-        → Finds next Rests at (cond t (sized (at + 1) bs) (cond u (some (record { event = damage 7; used = at + 1 })) (frame (at + 1) b bs))) (counting 3 h) (b ∷ bs)
+        → Finds next Rests at (cond t (sized (at + 1) bs) (cond u (some (record { event = damage 7 4; used = at + 1 })) (frame (at + 1) b bs))) (counting 3 h) (b ∷ bs)
     go true u e d ih = finds-goes next Rests (ap (next (counting 3 h)) (eqb-true b mark e) ∙ size-mark h) ih
     go false true e d ih = finds-tells next Rests (size-bad h b (ltb-true mark b d)) (rests h f)
     go false false e d ih =

@@ -32,7 +32,7 @@ pub size-opens : (h : List ℕ) (b : ℕ) → b < mark → next (counting 3 h) b
 unfolding next advanceOf moved
 size-opens h b lt = rw (ne-eqb b mark (λ e. omega arith), lt-ltb b mark lt)
 
-pub size-bad : (h : List ℕ) (b : ℕ) → mark < b → next (counting 3 h) b ≡ tells (damage 7) h
+pub size-bad : (h : List ℕ) (b : ℕ) → mark < b → next (counting 3 h) b ≡ tells (damage 7 4) h
 unfolding next advanceOf moved
 size-bad h b lt = rw (ne-eqb b mark (λ e. omega arith), le-ltb b mark (omega arith))
 

@@ -30,14 +30,14 @@ fresh-one r s x y = x ∙ sym y
 back : Told Header → Answer
 back done = Done
 back (gives (message h)) = Read h
-back (gives (damage n)) = Damaged (damages .back n)
+back (gives (damage n lost)) = Damaged (damages .back n) lost
 back (refuses n) = Refused (refusals .back n)
 
 back-told : (a : Answer) → back (told a) ≡ a
 unfolding back
 back-told Done = refl
 back-told (Read h) = refl
-back-told (Damaged d) = ap Damaged (damages .case d)
+back-told (Damaged d lost) = ap (λ what. Damaged what lost) (damages .case d)
 back-told (Refused r) = ap Refused (refusals .case r)
 
 told-alike : (a b : Answer) → told a ≡ told b → a ≡ b

@@ -41,7 +41,7 @@ judged-cased : (len : ℕ) (bs : List ℕ) (sum : ℕ) → Cased Named (some (ju
 unfolding judged
 judged-cased len bs sum = go (eqb sum (checksum (len ∷ bs)))
   where
-    go : (t : Bool) → Cased Named (some (cond t (message (messageOf bs)) (damage 6)))
+    go : (t : Bool) → Cased Named (some (cond t (message (messageOf bs)) (damage 6 (8 + len))))
     go true = tt
     go false = (WrongSum, refl)
 
@@ -63,7 +63,7 @@ steady s b i g = moves (advanceOf (s .stage) (s .count) (s .len) b) s b (asked (
 abbrev answerOf : (o : Option (Event Message)) → Cased Named o → Answer
 answerOf none k = Done
 answerOf (some (message m)) k = Read (header m)
-answerOf (some (damage n)) k = Damaged (k .0)
+answerOf (some (damage n lost)) k = Damaged (k .0) lost
 
 abbrev resultOf : (c : Called Reader (Event Message)) → Cased Named (c .event) → Step
 resultOf c k = record { reader = c .state; answer = answerOf (c .event) k; used = c .used }
@@ -72,8 +72,8 @@ shows : (t : Reader) (n : ℕ) (o : Option (Event Message)) (k : Cased Named o)
     → shown (resultOf (record { state = t; event = o; used = n }) k) ≡ retells header (answered (record { state = t; event = o; used = n }))
 shows t n none k = refl
 shows t n (some (message m)) k = refl
-shows t n (some (damage d)) k =
-    subst (λ (v : ℕ). shown (resultOf (record { state = t; event = some (damage d); used = n }) k) ≡ retells header (answered (record { state = t; event = some (damage v); used = n })))
+shows t n (some (damage d lost)) k =
+    subst (λ (v : ℕ). shown (resultOf (record { state = t; event = some (damage d lost); used = n }) k) ≡ retells header (answered (record { state = t; event = some (damage v lost); used = n })))
     (k .1) refl
 
 pub results : (s : Reader) (piece lent : List ℕ) → inRange s ≡ true → T (areBytes piece) → lentLeast ≤ length lent → HasResult fronius s piece lent

@@ -1,9 +1,16 @@
--- Fronius as a family, and what is demanded of it.
+-- Fronius as a family, and what is demanded of it: as of every family, and what is its own.
+use Prim.Native.Nat.{ℕ, _+_, _<_}
+use mathlib.Core.Path.{_≡_}
+use mathlib.Core.Logic.{_⊎_}
+use mathlib.Core.Option.{some}
+use mathlib.Core.List.{List, [], _∷_}
+use lib.ListN.{length, take, getD}
 use Rattle.answers.specs.Written.{lengthOf}
 use Rattle.answers.specs.declared.Written.{Written}
+use Rattle.stream.specs.Event.{damage}
 use Rattle.stream.specs.Call.{seenBy}
 use Rattle.stream.specs.Family.{Family}
-use Rattle.stream.specs.Demands.{Demands}
+use Rattle.stream.specs.Demands.{Demands, EndsWith}
 use Rattle.fronius.specs.Wire.{Message, Takes, wire}
 use Rattle.fronius.specs.Rules.{rule}
 use Rattle.fronius.specs.Machine.{fresh}
@@ -34,3 +41,18 @@ fronius = record {
 -- WHAT IS DEMANDED OF FRONIUS: demands 1 to 3 of document 01, each a field of `Demands`, over the rule, the writer and the reader above
 abbrev pub Demanded : Type 0
 Demanded = Demands fronius
+
+-- ---- its own
+
+-- a frame that is lost with a damage, as far as it was read: its length N is its fourth byte. With a 6 all of it is lost, 8 plus N;
+-- with a 7, where N is above 80, the three 80 and N
+pub record LostWith (n lost : ℕ) (frame : List ℕ) : Type 0 where
+  pub starts : take 3 frame ≡ 0x80 ∷ 0x80 ∷ 0x80 ∷ []
+  pub counted : length frame ≡ lost
+  pub numbered : ((n ≡ 6) × (lost ≡ 8 + getD frame 3 0)) ⊎ ((n ≡ 7) × (lost ≡ 4) × (0x80 < getD frame 3 0))
+
+-- WHAT A DAMAGE LOSES: the bytes used up to then end with a frame that is lost, whatever came before, further 80 too
+abbrev pub Lost : Type 0
+Lost =
+    (bs : List ℕ) (n lost p : ℕ) → rule tt bs ≡ some (record { event = damage n lost; used = p })
+    → (frame : List ℕ) × LostWith n lost frame × EndsWith frame (take p bs)

@@ -49,7 +49,7 @@ judgedFrame len sum held = some (judged len (take (3 + len) held) sum)
 abbrev pub eventOf : End → List ℕ → Option (Event Message)
 eventOf UsedUp held = none
 eventOf (Closed len sum) held = judgedFrame len sum held
-eventOf BadLength held = some (damage 7)
+eventOf BadLength held = some (damage 7 4)
 
 -- a length that was read is one that a message has
 abbrev pub Fits : End → Type 0

@@ -58,7 +58,7 @@ moved (Count n) s b = on (holding (s .stage) n (s .len) (s .held))
 moved (Open n) s b = on (filling 0 n (s .held))
 moved Keep s b = on (holding (s .stage) (s .count + 1) (s .len) (set (s .held) (s .count) b))
 moved Close s b = tells (judged (s .len) (take (3 + s .len) (s .held)) b) (s .held)
-moved Bad s b = tells (damage 7) (s .held)
+moved Bad s b = tells (damage 7 4) (s .held)
 
 unfoldable pub next : Reader → ℕ → Moved Reader (Event Message)
 next s b = moved (advanceOf (s .stage) (s .count) (s .len) b) s b

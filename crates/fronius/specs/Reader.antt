@@ -22,14 +22,14 @@ use Rattle.fronius.specs.declared.reader.Answer.the-variants.{Done, Mess
 abbrev pub number : Answer → ℕ
 number Done = 0
 number (Read h) = 1
-number (Damaged what) = Damage.number what
+number (Damaged what lost) = Damage.number what
 number (Refused why) = Refusal.number why
 
--- and what is told by it: with 1 the header
+-- and what is told by it: with 1 the header, with a damage the bytes lost
 abbrev pub told : Answer → Told Header
 told Done = done
 told (Read h) = gives (message h)
-told (Damaged what) = gives (damage (Damage.number what))
+told (Damaged what lost) = gives (damage (Damage.number what) lost)
 told (Refused why) = refuses (Refusal.number why)
 
 abbrev pub shown : Step → Seen Reader Header

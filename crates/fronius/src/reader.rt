@@ -65,7 +65,8 @@ pub enum Answer {
     // the piece is used up
     Done,
     Message(Header),
-    Damaged(Damage),
+    // what is wrong, and how many bytes are lost with it
+    Damaged { what: Damage, lost: u16 },
     Refused(Refusal),
 }
 
@@ -349,7 +350,12 @@ fn judge_frame(len: usize, sum: u8, held: &[u8]) -> Answer
     ensures { λ r. ⌜ JudgedAs (judgedFrame len sum (now (held .entry))) r ⌝ }
 {
     if sum != checksum_of(len, held) {
-        return Answer::Damaged(Damage::WrongSum);
+        // the whole frame
+        let lost = (8 + len) as u16;
+        return Answer::Damaged {
+            what: Damage::WrongSum,
+            lost,
+        };
     }
     let header = Header {
         device: held[0],
@@ -368,7 +374,11 @@ fn judge(end: End, held: &[u8]) -> Answer
     match end {
         End::UsedUp => Answer::Done,
         End::Closed { len, sum } => judge_frame(len, sum, held),
-        End::BadLength => Answer::Damaged(Damage::WrongLengthByte),
+        // 80 80 80 and the length, whatever 80s came before
+        End::BadLength => Answer::Damaged {
+            what: Damage::WrongLengthByte,
+            lost: 4,
+        },
     }
 }
 
@@ -384,7 +394,7 @@ fn deliver(answer: Answer, held: &[u8], lent: &mut [u8])
             bytes::copy(&held[PAYLOAD_AT..end], lent);
         }
         Answer::Done => {}
-        Answer::Damaged(_) => {}
+        Answer::Damaged { what: _, lost: _ } => {}
         Answer::Refused(_) => {}
     }
 }

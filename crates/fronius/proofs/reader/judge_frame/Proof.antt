@@ -10,19 +10,25 @@ use Rattle.fronius.proofs.reader.judge_frame.Tie as tie
 checksum-of-requires : tie.Need-checksum-of-requires
 checksum-of-requires c κs = search needs
 
+add-lost : tie.Need-add-lost
+add-lost c = search needs
+
+cast-lost : tie.Need-cast-lost
+cast-lost c = search needs
+
 returns : tie.Need-returns
 returns c =
     let start = c .before .before .before in
     judged-wrong (start .args .len) (start .args .held .now) (omega arith) (start .args .sum) (λ e. c .if1 .taken (e ∙ sym (c .before .checksum-of .ensures)))
 
-shared-slice-read-t5 : tie.Need-shared-slice-read-t5
-shared-slice-read-t5 c = search needs
-
-shared-slice-read-t10 : tie.Need-shared-slice-read-t10
-shared-slice-read-t10 c = search needs
+shared-slice-read-t6 : tie.Need-shared-slice-read-t6
+shared-slice-read-t6 c = search needs
 
 shared-slice-read-t12 : tie.Need-shared-slice-read-t12
 shared-slice-read-t12 c = search needs
+
+shared-slice-read-t14 : tie.Need-shared-slice-read-t14
+shared-slice-read-t14 c = search needs
 
 returns-2 : tie.Need-returns-2
 returns-2 c =
@@ -34,8 +40,10 @@ judge-frame-spec =
     tie.close
     (tie.spec
     checksum-of-requires
+    add-lost
+    cast-lost
     returns
-    shared-slice-read-t5
-    shared-slice-read-t10
+    shared-slice-read-t6
     shared-slice-read-t12
+    shared-slice-read-t14
     returns-2)
