@@ -107,9 +107,24 @@ decimal-fits (suc k) n h =
 pub decimal-some : (n : ℕ) → 1 ≤ length (decimal n)
 decimal-some n = tested n (λ s. rw (decimal-one n s) (omega arith)) (λ s. omega (arith, decimal-longer n s))
 
--- a number of 64 bits; one of 8
+-- at most a digit more than the number
+digits-most : (fuel n : ℕ) → length (digits fuel n) ≤ fuel
+digits-most zero n = omega arith
+digits-most (suc fuel) n =
+    tested n
+    (λ s. rw (lt-ltb n 10 s) (omega arith))
+    (λ s. rw (le-ltb n 10 s, length-append (digits fuel (n / 10)) ((48 + n % 10) ∷ [])) (omega (arith, digits-most fuel (n / 10))))
+
+pub decimal-most : (n : ℕ) → length (decimal n) ≤ suc n
+unfolding decimal
+decimal-most n = digits-most (suc n) n
+
+-- a number of 64 bits; one of 16; one of 8
 pub decimal-64 : (n : ℕ) → n < 18446744073709551616 → length (decimal n) ≤ placesMax
 decimal-64 n h = decimal-fits 19 n (omega arith)
+
+pub decimal-16 : (n : ℕ) → n < 65536 → length (decimal n) ≤ 5
+decimal-16 n h = decimal-fits 4 n (omega arith)
 
 pub decimal-8 : (n : ℕ) → n < 256 → length (decimal n) ≤ 3
 decimal-8 n h = decimal-fits 2 n (omega arith)
@@ -131,11 +146,12 @@ pub message-text : (port : ℕ) (m : Shown)
     ≡ messageLine port m
 message-text port m = simp (append-assoc, decimal-one 1 (omega arith))
 
-pub damage-length : (port number : ℕ) → length (damageLine port number) ≡ length (decimal port) + length (decimal number) + 2
-damage-length port number = simp length-append (omega arith)
+pub damage-length : (port number lost : ℕ) → length (damageLine port number lost) ≡ length (decimal port) + length (decimal number) + length (decimal lost) + 3
+damage-length port number lost = simp length-append (omega arith)
 
-pub damage-text : (port number : ℕ) → (decimal port ++ (32 ∷ [])) ++ (decimal number ++ (10 ∷ [])) ≡ damageLine port number
-damage-text port number = simp append-assoc
+pub damage-text : (port number lost : ℕ)
+    → ((decimal port ++ (32 ∷ [])) ++ (decimal number ++ (32 ∷ []))) ++ (decimal lost ++ (10 ∷ [])) ≡ damageLine port number lost
+damage-text port number lost = simp append-assoc
 
 pub stop-length : (number : ℕ) → length (stopLine number) ≡ 5 + length (decimal number) + 1
 stop-length number = simp length-append (omega arith)

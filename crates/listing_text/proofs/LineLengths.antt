@@ -11,7 +11,7 @@ use Rattle.answers.specs.Written.{Writes}
 use Rattle.answers.specs.declared.Written.{Written}
 use Rattle.answers.specs.declared.Written.the-variants.{Done}
 use Rattle.answers.proofs.WriterPromise.{writes-one, writes-done}
-use Rattle.listing_text.specs.Lines.{titleLine, Shown, messageLine, damageLine, stopLine, endLine, fieldMax, tooLong}
+use Rattle.listing_text.specs.Lines.{decimal, titleLine, Shown, messageLine, damageLine, stopLine, endLine, fieldMax, tooLong}
 use Rattle.listing_text.proofs.FieldLengths.{width-most, decimal-8, decimal-10, decimal-64, message-length, damage-length, stop-length, end-length}
 
 -- ---- lengths
@@ -27,8 +27,8 @@ message-most port m h =
     (arith, message-length port m, decimal-8 port h, width-most (length (m .from)), width-most (length (m .to)), width-most (length (m .code)), width-most (length (m .payload)))
 
 -- of a port and a number of one digit
-pub damage-four : (port number : ℕ) → port < 10 → number < 10 → length (damageLine port number) ≡ 4
-damage-four port number h k = omega (arith, damage-length port number, decimal-10 port h, decimal-10 number k)
+pub damage-five : (port number lost : ℕ) → port < 10 → number < 10 → length (damageLine port number lost) ≡ 5 + length (decimal lost)
+damage-five port number lost h k = omega (arith, damage-length port number lost, decimal-10 port h, decimal-10 number k)
 
 pub stop-most : (number : ℕ) → number < 256 → length (stopLine number) ≤ 9
 stop-most number h = omega (arith, stop-length number, decimal-8 number h)

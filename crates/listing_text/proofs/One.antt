@@ -20,8 +20,9 @@ message-2-2-2-one port m = writes-one (tooLong m) (messageLine port m)
 pub message-0-2-1-one : (port : ℕ) (m : Shown) (lent a b : List ℕ) (v w : Written) → IsMessage port m lent v a → IsMessage port m lent w b → (v ≡ w) × (a ≡ b)
 message-0-2-1-one port m = writes-one (tooLong m) (messageLine port m)
 
-pub damage-one : (port number : ℕ) (lent a b : List ℕ) (v w : Written) → IsDamage port number lent v a → IsDamage port number lent w b → (v ≡ w) × (a ≡ b)
-damage-one port number = writes-one false (damageLine port number)
+pub damage-one : (port number lost : ℕ) (lent a b : List ℕ) (v w : Written) → IsDamage port number lost lent v a → IsDamage port number lost lent w b
+    → (v ≡ w) × (a ≡ b)
+damage-one port number lost = writes-one false (damageLine port number lost)
 
 pub stop-one : (number : ℕ) (lent a b : List ℕ) (v w : Written) → IsStop number lent v a → IsStop number lent w b → (v ≡ w) × (a ≡ b)
 stop-one number = writes-one false (stopLine number)

@@ -59,9 +59,9 @@ shown from to code payload = record { from = from; to = to; code = code; payload
 abbrev pub messageLine : (port : ℕ) → Shown → List ℕ
 messageLine port m = line (decimal port ∷ decimal 1 ∷ field (m .from) ∷ field (m .to) ∷ field (m .code) ∷ field (m .payload) ∷ [])
 
--- A damage line is port and number.
-abbrev pub damageLine : (port number : ℕ) → List ℕ
-damageLine port number = line (decimal port ∷ decimal number ∷ [])
+-- A damage line is port and number, and how many bytes were lost as a third field.
+abbrev pub damageLine : (port number lost : ℕ) → List ℕ
+damageLine port number lost = line (decimal port ∷ decimal number ∷ decimal lost ∷ [])
 
 -- `stop` and the number of the refusal
 abbrev pub stopWord : List ℕ
@@ -96,8 +96,8 @@ abbrev pub IsMessage : (port : ℕ) → Shown → List ℕ → Written → List 
 IsMessage port m = Writes (tooLong m) (messageLine port m)
 
 -- `damage`
-abbrev pub IsDamage : (port number : ℕ) → List ℕ → Written → List ℕ → Type 0
-IsDamage port number = Writes false (damageLine port number)
+abbrev pub IsDamage : (port number lost : ℕ) → List ℕ → Written → List ℕ → Type 0
+IsDamage port number lost = Writes false (damageLine port number lost)
 
 -- `stop`
 abbrev pub IsStop : (number : ℕ) → List ℕ → Written → List ℕ → Type 0

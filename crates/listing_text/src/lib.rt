@@ -166,15 +166,16 @@ pub fn message_0_2_1(
     Written::Done(put_field(payload, b'\n', lent, q))
 }
 
-// Writes the line of a damage, by the port and the damage's number.
-pub fn damage(port: u8, number: u8, lent: &mut [u8]) -> Written
-    ensures { λ w. ⌜ IsDamage port number (now (lent .entry)) w (now (lent .exit)) ⌝ }
+// Writes the line of a damage, by the port, the damage's number and how many bytes were lost.
+pub fn damage(port: u8, number: u8, lost: u16, lent: &mut [u8]) -> Written
+    ensures { λ w. ⌜ IsDamage port number lost (now (lent .entry)) w (now (lent .exit)) ⌝ }
 {
-    if lent.len() < places(port as u64) + places(number as u64) + 2 {
+    if lent.len() < places(port as u64) + places(number as u64) + places(lost as u64) + 3 {
         return Written::Refused(Refusal::NoRoom);
     }
     let p = put_number(port as u64, b' ', lent, 0);
-    Written::Done(put_number(number as u64, b'\n', lent, p))
+    let q = put_number(number as u64, b' ', lent, p);
+    Written::Done(put_number(lost as u64, b'\n', lent, q))
 }
 
 // Writes the line of a refusal that stops the listing, by its number.
