@@ -44,7 +44,7 @@ refused-12 Done h = absurd (omega arith)
 refused-12 (ComLynx m) h = absurd (omega arith)
 refused-12 (Eversolar m) h = absurd (omega arith)
 refused-12 (Fronius m) h = absurd (omega arith)
-refused-12 (Damaged what) h = let twelve : _≡_ {A = ℕ} 0 1 = rw h at (damages .once what) in absurd (omega arith)
+refused-12 (Damaged what lost) h = let twelve : _≡_ {A = ℕ} 0 1 = rw h at (damages .once what) in absurd (omega arith)
 refused-12 (Refused why) h = (why, refl)
 
 -- ---- on any port of the table

@@ -78,14 +78,14 @@ pub record RowFacts (seat : Seat) : Type 1 where
 comlynx-number : (a : ComlynxAnswer.Answer) → answerNumber (comlynxAnswer a) ≡ ComlynxReader.number a
 comlynx-number OfComlynx.Done = refl
 comlynx-number (OfComlynx.Message h) = refl
-comlynx-number (OfComlynx.Damaged what) = refl
+comlynx-number (OfComlynx.Damaged what lost) = refl
 comlynx-number (OfComlynx.Refused why) = refl
 
 comlynx-refusal : (a : ComlynxAnswer.Answer) (later : List ℕ) (why : Refusal) → comlynxAnswer a ≡ Refused why
     → retold (λ h. ComlynxReader.join h later) (ComlynxReader.told a) ≡ refuses (refusalNumber why)
 comlynx-refusal OfComlynx.Done later why e = zero-is-one cc
 comlynx-refusal (OfComlynx.Message m) later why e = zero-is-one cc
-comlynx-refusal (OfComlynx.Damaged what) later why e = zero-is-one cc
+comlynx-refusal (OfComlynx.Damaged what lost) later why e = zero-is-one cc
 comlynx-refusal (OfComlynx.Refused reason) later why e = let same : reason ≡ why = cc in ap (λ (w : Refusal). refuses (refusalNumber w)) same
 
 comlynx-row : RowFacts comlynxSeat
@@ -114,14 +114,14 @@ comlynx-row = record {
 eversolar-number : (a : EversolarAnswer.Answer) → answerNumber (eversolarAnswer a) ≡ EversolarReader.number a
 eversolar-number OfEversolar.Done = refl
 eversolar-number (OfEversolar.Message h) = refl
-eversolar-number (OfEversolar.Damaged what) = refl
+eversolar-number (OfEversolar.Damaged what lost) = refl
 eversolar-number (OfEversolar.Refused why) = refl
 
 eversolar-refusal : (a : EversolarAnswer.Answer) (later : List ℕ) (why : Refusal) → eversolarAnswer a ≡ Refused why
     → retold (λ h. EversolarReader.join h later) (EversolarReader.told a) ≡ refuses (refusalNumber why)
 eversolar-refusal OfEversolar.Done later why e = zero-is-one cc
 eversolar-refusal (OfEversolar.Message m) later why e = zero-is-one cc
-eversolar-refusal (OfEversolar.Damaged what) later why e = zero-is-one cc
+eversolar-refusal (OfEversolar.Damaged what lost) later why e = zero-is-one cc
 eversolar-refusal (OfEversolar.Refused reason) later why e = let same : reason ≡ why = cc in ap (λ (w : Refusal). refuses (refusalNumber w)) same
 
 eversolar-row : RowFacts eversolarSeat
@@ -150,14 +150,14 @@ eversolar-row = record {
 fronius-number : (a : FroniusAnswer.Answer) → answerNumber (froniusAnswer a) ≡ FroniusReader.number a
 fronius-number OfFronius.Done = refl
 fronius-number (OfFronius.Message h) = refl
-fronius-number (OfFronius.Damaged what) = refl
+fronius-number (OfFronius.Damaged what lost) = refl
 fronius-number (OfFronius.Refused why) = refl
 
 fronius-refusal : (a : FroniusAnswer.Answer) (later : List ℕ) (why : Refusal) → froniusAnswer a ≡ Refused why
     → retold (λ h. FroniusReader.join h later) (FroniusReader.told a) ≡ refuses (refusalNumber why)
 fronius-refusal OfFronius.Done later why e = zero-is-one cc
 fronius-refusal (OfFronius.Message m) later why e = zero-is-one cc
-fronius-refusal (OfFronius.Damaged what) later why e = zero-is-one cc
+fronius-refusal (OfFronius.Damaged what lost) later why e = zero-is-one cc
 fronius-refusal (OfFronius.Refused reason) later why e = let same : reason ≡ why = cc in ap (λ (w : Refusal). refuses (refusalNumber w)) same
 
 fronius-row : RowFacts froniusSeat

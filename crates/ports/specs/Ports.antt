@@ -39,19 +39,19 @@ use Rattle.ports.specs.declared.Answer.the-variants.{Done, ComLynx, Ever
 abbrev pub comlynxAnswer : ComlynxAnswer.Answer → Answer
 comlynxAnswer OfComlynx.Done = Done
 comlynxAnswer (OfComlynx.Message h) = ComLynx h
-comlynxAnswer (OfComlynx.Damaged what) = Damaged what
+comlynxAnswer (OfComlynx.Damaged what lost) = Damaged what lost
 comlynxAnswer (OfComlynx.Refused why) = Refused why
 
 abbrev pub eversolarAnswer : EversolarAnswer.Answer → Answer
 eversolarAnswer OfEversolar.Done = Done
 eversolarAnswer (OfEversolar.Message h) = Eversolar h
-eversolarAnswer (OfEversolar.Damaged what) = Damaged what
+eversolarAnswer (OfEversolar.Damaged what lost) = Damaged what lost
 eversolarAnswer (OfEversolar.Refused why) = Refused why
 
 abbrev pub froniusAnswer : FroniusAnswer.Answer → Answer
 froniusAnswer OfFronius.Done = Done
 froniusAnswer (OfFronius.Message h) = Fronius h
-froniusAnswer (OfFronius.Damaged what) = Damaged what
+froniusAnswer (OfFronius.Damaged what lost) = Damaged what lost
 froniusAnswer (OfFronius.Refused why) = Refused why
 
 -- document 01's table of answers, case by case: the number of each
@@ -60,7 +60,7 @@ number Done = 0
 number (ComLynx h) = 1
 number (Eversolar h) = 1
 number (Fronius h) = 1
-number (Damaged what) = Damage.number what
+number (Damaged what lost) = Damage.number what
 number (Refused why) = Refusal.number why
 
 -- ---- THE ONE TABLE OF PORTS: a row a port. Everything above goes by it

@@ -35,7 +35,8 @@ pub enum Answer {
     ComLynx(comlynx::Header),
     Eversolar(eversolar::Header),
     Fronius(fronius::Header),
-    Damaged(Damage),
+    // with how many bytes were lost
+    Damaged { what: Damage, lost: u16 },
     Refused(Refusal),
 }
 
@@ -53,7 +54,7 @@ fn comlynx_answer(answer: comlynx::Answer) -> Answer
     match answer {
         comlynx::Answer::Done => Answer::Done,
         comlynx::Answer::Message(h) => Answer::ComLynx(h),
-        comlynx::Answer::Damaged(what) => Answer::Damaged(what),
+        comlynx::Answer::Damaged { what, lost } => Answer::Damaged { what, lost },
         comlynx::Answer::Refused(why) => Answer::Refused(why),
     }
 }
@@ -64,7 +65,7 @@ fn eversolar_answer(answer: eversolar::Answer) -> Answer
     match answer {
         eversolar::Answer::Done => Answer::Done,
         eversolar::Answer::Message(h) => Answer::Eversolar(h),
-        eversolar::Answer::Damaged(what) => Answer::Damaged(what),
+        eversolar::Answer::Damaged { what, lost } => Answer::Damaged { what, lost },
         eversolar::Answer::Refused(why) => Answer::Refused(why),
     }
 }
@@ -75,7 +76,7 @@ fn fronius_answer(answer: fronius::Answer) -> Answer
     match answer {
         fronius::Answer::Done => Answer::Done,
         fronius::Answer::Message(h) => Answer::Fronius(h),
-        fronius::Answer::Damaged(what) => Answer::Damaged(what),
+        fronius::Answer::Damaged { what, lost } => Answer::Damaged { what, lost },
         fronius::Answer::Refused(why) => Answer::Refused(why),
     }
 }
