@@ -69,12 +69,12 @@ module _ {M : Type 0} (show : M → Shown) (port : ℕ) where
   pub message-most-one : (o : Option (Event M)) → messageFor o ≤ 1
   message-most-one none = omega arith
   message-most-one (some (message m)) = omega arith
-  message-most-one (some (damage n)) = omega arith
+  message-most-one (some (damage n lost)) = omega arith
 
   pub damage-most-one : (o : Option (Event M)) → damageFor o ≤ 1
   damage-most-one none = omega arith
   damage-most-one (some (message m)) = omega arith
-  damage-most-one (some (damage n)) = omega arith
+  damage-most-one (some (damage n lost)) = omega arith
 
   entries-append : (a b : List (Event M)) → entriesIn (a ++ b) ≡ entriesIn a ++ entriesIn b
   entries-append [] b = refl
@@ -215,7 +215,7 @@ module _ {S M H R : Type 0} (next : S → ℕ → Moved S (Event M)) (inRange : 
     fine-told : (o : Option (Event M)) → Fine (retold header (outcome o))
     fine-told none = tt
     fine-told (some (message m)) = tt
-    fine-told (some (damage n)) = tt
+    fine-told (some (damage n lost)) = tt
 
     -- and one that was refused was made in a state out of range, and left it
     pub spoils : (n : ℕ) → shown r .told ≡ refuses n → (inRange s ≡ false) × (shown r .state ≡ s)

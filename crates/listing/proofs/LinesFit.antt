@@ -1,5 +1,5 @@
--- That the lines of a packet fit into what is lent: a weight. A byte held may be printed later, as two digits; a line is no longer than what was
--- held before it and 20 for each byte that came.
+-- That the lines of a packet fit into what is lent: a weight. A byte held may be printed later, as two digits, and the number of bytes that came as
+-- its digits; a line is no longer than what was held for it before and 20 for each byte that came.
 -- Assumes nothing.
 use Prim.Native.Nat.{ℕ, _+_, _-_, _*_, _≤_, _<_}
 use mathlib.Core.Path.{_≡_, refl}
@@ -31,8 +31,9 @@ use Rattle.fronius.specs.Machine as Fronius
 use Rattle.fronius.specs.Reader as FroniusReader
 use Rattle.fronius.specs.declared.reader.Reader as FroniusState
 use Rattle.fronius.proofs.StageRanges as FroniusRange
-use Rattle.listing_text.specs.Lines.{Shown, messageLine, damageLine}
-use Rattle.listing_text.proofs.LineLengths.{message-most, damage-four}
+use Rattle.listing_text.specs.Lines.{Shown, decimal, messageLine, damageLine}
+use Rattle.listing_text.proofs.FieldLengths.{decimal-10, decimal-16, decimal-most}
+use Rattle.listing_text.proofs.LineLengths.{message-most, damage-five}
 use Rattle.listing.specs.Entries.{showComlynx, showEversolar, showFronius, showEvent, entryLine}
 
 -- the line of an event, if there is one
@@ -44,9 +45,9 @@ lineFor show port (some e) = entryLine port (showEvent show e)
 abbrev pub perByte : ℕ
 perByte = 20
 
--- what the bytes that a reader holds may bring
+-- what the bytes that a reader holds, and the number that it counts, may bring
 abbrev pub heldMost : ℕ
-heldMost = 532
+heldMost = 537
 
 -- ---- of any family
 
@@ -80,11 +81,11 @@ module _ (port : ℕ) (small : port < 10) where
   unfolding FroniusRules.judged
   fronius-judged len count sum held h = go (eqb sum (FroniusWire.checksum (len ∷ take (3 + len) held)))
     where
-      go : (t : Bool) → length (entryLine port (showEvent showFronius (cond t (message (FroniusWire.messageOf (take (3 + len) held))) (damage 6)))) ≤ 2 * count + perByte
+      go : (t : Bool) → length (entryLine port (showEvent showFronius (cond t (message (FroniusWire.messageOf (take (3 + len) held))) (damage 6 (8 + len))))) ≤ 2 * count + perByte
       go true =
           let long : length (drop 3 (take (3 + len) held)) ≤ len = simp (length-drop, length-take) (omega arith) in
           omega (arith, message-most port (showFronius (FroniusWire.messageOf (take (3 + len) held))) (omega arith))
-      go false = omega (arith, damage-four port 6 small (omega arith))
+      go false = omega (arith, damage-five port 6 (8 + len) small (omega arith), decimal-most (8 + len))
 
   pub fronius-weighs : Weighs Fronius.next showFronius port froniusWeight
   unfolding Fronius.next Fronius.advanceOf Fronius.moved
@@ -96,7 +97,7 @@ module _ (port : ℕ) (small : port < 10) where
       go true true false t u c d e f g = rw (c, d, e) (omega arith)
       go true false true t u c d e f g = rw (c, d, e) (omega arith)
       go true false false true u c d e f g = rw (c, d, e, f) (omega arith)
-      go true false false false u c d e f g = rw (c, d, e, f) (omega (arith, damage-four port 7 small (omega arith)))
+      go true false false false u c d e f g = rw (c, d, e, f) (omega (arith, damage-five port 7 4 small (omega arith), decimal-most 4))
       go false q r t true c d e f g = rw (c, g) (omega arith)
       go false q r t false c d e f g = rw (c, g) (omega (arith, fronius-judged (s .len) (s .count) b (s .held) (ltb-false (s .count) (3 + s .len) g)))
 
@@ -122,11 +123,11 @@ module _ (port : ℕ) (small : port < 10) where
   unfolding EversolarRules.judged
   eversolar-judged six len count sum held h = go (eqb sum (EversolarWire.checksum (EversolarWire.earlierOf six len (take len (drop 7 held)))))
     where
-      go : (t : Bool) → length (entryLine port (showEvent showEversolar (cond t (message (EversolarWire.messageOf six (take len (drop 7 held)))) (damage 6)))) ≤ 2 * count + perByte
+      go : (t : Bool) → length (entryLine port (showEvent showEversolar (cond t (message (EversolarWire.messageOf six (take len (drop 7 held)))) (damage 6 (11 + len))))) ≤ 2 * count + perByte
       go true =
           let long : length (take len (drop 7 held)) ≤ len = simp length-take (omega arith) in
           omega (arith, message-most port (showEversolar (EversolarWire.messageOf six (take len (drop 7 held)))) (omega arith))
-      go false = omega (arith, damage-four port 6 small (omega arith))
+      go false = omega (arith, damage-five port 6 (11 + len) small (omega arith), decimal-most (11 + len))
 
   pub eversolar-weighs : Weighs Eversolar.next showEversolar port eversolarWeight
   unfolding Eversolar.next Eversolar.advanceOf Eversolar.moved
@@ -152,30 +153,41 @@ eversolar-heavy s e = go (EversolarRange.range-of (s .stage) (s .count) (s .len)
 -- ---- ComLynx
 
 abbrev pub comlynxWeight : ComlynxState.Reader → ℕ
-comlynxWeight s = 2 * s .count
+comlynxWeight s = 2 * s .count + length (decimal (s .came))
+
+-- before the first byte of a stretch; after a further one
+none-came : length (decimal 0) ≡ 1
+none-came = decimal-10 0 (omega arith)
+
+more-came : (came : ℕ) → length (decimal (Comlynx.more came 1)) ≤ 5
+more-came came = decimal-16 (Comlynx.more came 1) (omega arith)
 
 module _ (port : ℕ) (small : port < 10) where
-  comlynx-judged : (n : ℕ) (right : Bool) (bs : List ℕ) → length bs ≤ n
-      → length (entryLine port (showEvent showComlynx (ComlynxRules.judged n right bs))) ≤ 2 * n + perByte
+  -- the digits of what is lost, and 5 bytes more
+  lost : (number came : ℕ) → number < 10 → length (damageLine port number came) ≤ 5 + length (decimal came)
+  lost number came h = omega (arith, damage-five port number came small h)
+
+  comlynx-judged : (came n : ℕ) (right : Bool) (bs : List ℕ) → length bs ≤ n
+      → length (entryLine port (showEvent showComlynx (ComlynxRules.judged came n right bs))) ≤ 2 * n + length (decimal came) + 5
   unfolding ComlynxRules.judged
-  comlynx-judged n right bs h = go (leb ComlynxWire.bodyLeast n) (leb n ComlynxWire.bodyMax) (ComlynxRules.begins bs) (eqb (getD bs 6 0) (n - ComlynxWire.bodyLeast)) right refl
+  comlynx-judged came n right bs h = go (leb ComlynxWire.bodyLeast n) (leb n ComlynxWire.bodyMax) (ComlynxRules.begins bs) (eqb (getD bs 6 0) (n - ComlynxWire.bodyLeast)) right refl
     where
       go : (p q r t u : Bool) → leb ComlynxWire.bodyLeast n ≡ p
           → length
           (entryLine port
           (showEvent showComlynx
-          (cond (p && q) (cond r (cond t (cond u (message (ComlynxWire.messageOf bs)) (damage 6)) (damage 5)) (damage 4)) (damage 3)))) ≤ 2 * n + perByte
+          (cond (p && q) (cond r (cond t (cond u (message (ComlynxWire.messageOf bs)) (damage 6 came)) (damage 5 came)) (damage 4 came)) (damage 3 came)))) ≤ 2 * n + length (decimal came) + 5
       go true true true true true e =
           let long : length (take (length bs - ComlynxWire.bodyLeast) (drop 8 bs)) ≤ length bs - ComlynxWire.bodyLeast = simp length-take (omega arith) in
           omega (arith, leb-true ComlynxWire.bodyLeast n e, message-most port (showComlynx (ComlynxWire.messageOf bs)) (omega arith))
-      go true true true true false e = omega (arith, damage-four port 6 small (omega arith))
-      go true true true false u e = omega (arith, damage-four port 5 small (omega arith))
-      go true true false t u e = omega (arith, damage-four port 4 small (omega arith))
-      go true false r t u e = omega (arith, damage-four port 3 small (omega arith))
-      go false q r t u e = omega (arith, damage-four port 3 small (omega arith))
+      go true true true true false e = omega (arith, lost 6 came (omega arith))
+      go true true true false u e = omega (arith, lost 5 came (omega arith))
+      go true true false t u e = omega (arith, lost 4 came (omega arith))
+      go true false r t u e = omega (arith, lost 3 came (omega arith))
+      go false q r t u e = omega (arith, lost 3 came (omega arith))
 
-  comlynx-closed : (count : ℕ) (held : List ℕ) → length (entryLine port (showEvent showComlynx (Comlynx.closed count held))) ≤ 2 * count + perByte
-  comlynx-closed count held = comlynx-judged count _ (take count held) (simp length-take (omega arith))
+  comlynx-closed : (came count : ℕ) (held : List ℕ) → length (entryLine port (showEvent showComlynx (Comlynx.closed came count held))) ≤ 2 * count + length (decimal came) + 5
+  comlynx-closed came count held = comlynx-judged came count _ (take count held) (simp length-take (omega arith))
 
   -- a byte kept, or one too many
   comlynx-keeps : (s : ComlynxState.Reader) (v : ℕ)
@@ -187,8 +199,8 @@ module _ (port : ℕ) (small : port < 10) where
       go : (t : Bool) → ltb (s .count) ComlynxWire.bodyMax ≡ t
           → length (lineFor showComlynx port (Comlynx.moved (Comlynx.keepOf (s .count) v) s .event)) + comlynxWeight (Comlynx.moved (Comlynx.keepOf (s .count) v) s .state)
           ≤ comlynxWeight s + perByte
-      go true e = rw e (omega arith)
-      go false e = rw e (omega (arith, ltb-false (s .count) ComlynxWire.bodyMax e))
+      go true e = rw e (omega (arith, more-came (s .came)))
+      go false e = rw e (omega (arith, more-came (s .came), ltb-false (s .count) ComlynxWire.bodyMax e))
 
   pub comlynx-weighs : Weighs Comlynx.next showComlynx port comlynxWeight
   unfolding Comlynx.next Comlynx.advanceOf Comlynx.moved
@@ -198,22 +210,21 @@ module _ (port : ℕ) (small : port < 10) where
       go : (p q r f x z m n : Bool) → eqb (s .stage) 0 ≡ p → eqb (s .stage) 1 ≡ q → eqb (s .stage) 2 ≡ r → eqb b ComlynxWire.flag ≡ f
           → eqb b ComlynxWire.escape ≡ x → eqb (s .count) 0 ≡ z → eqb b ComlynxWire.flagPair ≡ m → eqb b ComlynxWire.escapePair ≡ n
           → length (lineFor showComlynx port (Comlynx.next s b .event)) + comlynxWeight (Comlynx.next s b .state) ≤ comlynxWeight s + perByte
-      go true q r true x z m n a c d e g h i j = rw (a, e) (omega arith)
+      go true q r true x z m n a c d e g h i j = rw (a, e) (omega (arith, none-came))
       go true q r false x z m n a c d e g h i j = rw (a, e) (omega arith)
-      go false true r true x true m n a c d e g h i j = rw (a, c, e, h) (omega arith)
-      go false true r true x false m n a c d e g h i j = rw (a, c, e, h) (omega (arith, comlynx-closed (s .count) (s .held)))
-      go false true r false true z m n a c d e g h i j = rw (a, c, e, g) (omega arith)
+      go false true r true x true m n a c d e g h i j = rw (a, c, e, h) (omega (arith, none-came))
+      go false true r true x false m n a c d e g h i j = rw (a, c, e, h) (omega (arith, none-came, comlynx-closed (s .came) (s .count) (s .held)))
+      go false true r false true z m n a c d e g h i j = rw (a, c, e, g) (omega (arith, more-came (s .came)))
       go false true r false false z m n a c d e g h i j = rw (a, c, e, g) (comlynx-keeps s b)
-      go false false true true x z m n a c d e g h i j = rw (a, c, d, e) (omega (arith, damage-four port 2 small (omega arith)))
+      go false false true true x z m n a c d e g h i j = rw (a, c, d, e) (omega (arith, none-came, lost 2 (s .came) (omega arith)))
       go false false true false x z true n a c d e g h i j = rw (a, c, d, e, i) (comlynx-keeps s ComlynxWire.flag)
       go false false true false x z false true a c d e g h i j = rw (a, c, d, e, i, j) (comlynx-keeps s ComlynxWire.escape)
-      go false false true false x z false false a c d e g h i j = rw (a, c, d, e, i, j) (omega arith)
-      go false false false true x z m n a c d e g h i j = rw (a, c, d, e) (omega (arith, damage-four port 2 small (omega arith)))
-      go false false false false x z m n a c d e g h i j = rw (a, c, d, e) (omega arith)
+      go false false true false x z false false a c d e g h i j = rw (a, c, d, e, i, j) (omega (arith, more-came (s .came)))
+      go false false false true x z m n a c d e g h i j = rw (a, c, d, e) (omega (arith, none-came, lost 2 (s .came) (omega arith)))
+      go false false false false x z m n a c d e g h i j = rw (a, c, d, e) (omega (arith, more-came (s .came)))
 
 pub comlynx-heavy : (s : ComlynxState.Reader) → ComlynxReader.inRange s ≡ true → comlynxWeight s ≤ heldMost
-comlynx-heavy s e = go (ComlynxRange.range-of (s .stage) (s .count) e)
-  where
-    go : ComlynxRange.Range (s .stage) (s .count) → comlynxWeight s ≤ heldMost
-    go (ComlynxRange.outside p q) = omega arith
-    go (ComlynxRange.within p q r) = omega arith
+comlynx-heavy s e =
+    let range = ComlynxRange.range-of (s .stage) (s .came) (s .count) e in
+    let few = ComlynxRange.range-came (s .stage) (s .came) (s .count) range in
+    omega (arith, ComlynxRange.range-count (s .stage) (s .came) (s .count) range, decimal-16 (s .came) (omega (arith, few)))

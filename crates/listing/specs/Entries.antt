@@ -1,4 +1,4 @@
--- What a listing shows: a message as four lists of bytes, a damage by its number, each on its port; their lines and their counts.
+-- What a listing shows: a message as four lists of bytes, a damage by its number and the bytes lost, each on its port; their lines and their counts.
 use Prim.Native.Nat.{ℕ, _+_}
 use mathlib.Core.Option.{Option, none, some}
 use mathlib.Core.List.{List, [], _∷_, _++_, map}
@@ -8,7 +8,7 @@ use Rattle.listing_text.specs.Lines.{Shown, messageLine, damageLine, stopLine, 
 
 abbrev pub showEvent : {M : Type 0} → (M → Shown) → Event M → Event Shown
 showEvent show (message m) = message (show m)
-showEvent show (damage n) = damage n
+showEvent show (damage n lost) = damage n lost
 
 -- ---- entries, a line each
 
@@ -23,7 +23,7 @@ entriesOn port es = map {A = Event Shown} {B = Entry} (λ e. record { port = por
 
 abbrev pub entryLine : (port : ℕ) → Event Shown → List ℕ
 entryLine port (message m) = messageLine port m
-entryLine port (damage n) = damageLine port n
+entryLine port (damage n lost) = damageLine port n lost
 
 abbrev pub linesOf : List Entry → List ℕ
 linesOf [] = []
@@ -32,11 +32,11 @@ linesOf (e ∷ es) = entryLine (e .port) (e .event) ++ linesOf es
 -- of the entries, how many are messages, and how many are damages
 abbrev pub isMessage : Event Shown → ℕ
 isMessage (message m) = 1
-isMessage (damage n) = 0
+isMessage (damage n lost) = 0
 
 abbrev pub isDamage : Event Shown → ℕ
 isDamage (message m) = 0
-isDamage (damage n) = 1
+isDamage (damage n lost) = 1
 
 abbrev pub messagesIn : List Entry → ℕ
 messagesIn [] = 0

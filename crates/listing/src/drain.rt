@@ -60,6 +60,7 @@ pub(crate) fn drain_comlynx(
     let answer = comlynx::Answer::Done;
     let mut s = comlynx::StepInPlace {
         stage: reader.stage,
+        came: reader.came,
         count: reader.count,
         answer,
         used: 0,
@@ -70,7 +71,7 @@ pub(crate) fn drain_comlynx(
     let mut damages: u64 = 0;
     let mut at: usize = 0;
     while at < piece.len() {
-        s = comlynx::step_in_place(s.stage, s.count, &mut held, &piece[at..], &mut lent);
+        s = comlynx::step_in_place(s.stage, s.came, s.count, &mut held, &piece[at..], &mut lent);
         at += s.used;
         let answer = s.answer;
         match answer {
@@ -79,8 +80,8 @@ pub(crate) fn drain_comlynx(
                 wrote += comlynx_line(port, h, &lent, &mut out[wrote..]);
                 messages += 1;
             }
-            comlynx::Answer::Damaged(what) => {
-                wrote += damage_line(port, what, &mut out[wrote..]);
+            comlynx::Answer::Damaged { what, lost } => {
+                wrote += damage_line(port, what, lost, &mut out[wrote..]);
                 damages += 1;
             }
             comlynx::Answer::Refused(_) => {
@@ -92,6 +93,7 @@ pub(crate) fn drain_comlynx(
     let next = comlynx::Reader {
         held,
         stage: s.stage,
+        came: s.came,
         count: s.count,
     };
     ComlynxDrained {
@@ -137,8 +139,8 @@ pub(crate) fn drain_eversolar(
                 wrote += eversolar_line(port, h, &lent, &mut out[wrote..]);
                 messages += 1;
             }
-            eversolar::Answer::Damaged(what) => {
-                wrote += damage_line(port, what, &mut out[wrote..]);
+            eversolar::Answer::Damaged { what, lost } => {
+                wrote += damage_line(port, what, lost, &mut out[wrote..]);
                 damages += 1;
             }
             eversolar::Answer::Refused(_) => {
@@ -196,8 +198,8 @@ pub(crate) fn drain_fronius(
                 wrote += fronius_line(port, h, &lent, &mut out[wrote..]);
                 messages += 1;
             }
-            fronius::Answer::Damaged(what) => {
-                wrote += damage_line(port, what, &mut out[wrote..]);
+            fronius::Answer::Damaged { what, lost } => {
+                wrote += damage_line(port, what, lost, &mut out[wrote..]);
                 damages += 1;
             }
             fronius::Answer::Refused(_) => {

@@ -62,10 +62,10 @@ pub(crate) fn fronius_line(port: u8, h: fronius::Header, payload: &[u8], out: &m
     listing_text::message_0_2_1(port, h.device, h.number, h.command, &payload[..n], out).length()
 }
 
-// A damage of any family.
-pub(crate) fn damage_line(port: u8, what: Damage, out: &mut [u8]) -> usize
-    requires { ⌜ length (entryLine port (damage (DamageNumber.number what))) ≤ length (now out) ⌝ }
-    ensures { λ r. ⌜ Put (entryLine port (damage (DamageNumber.number what))) (now (out .entry)) r (now (out .exit)) ⌝ }
+// A damage of any family, and how many bytes were lost with it.
+pub(crate) fn damage_line(port: u8, what: Damage, lost: u16, out: &mut [u8]) -> usize
+    requires { ⌜ length (entryLine port (damage (DamageNumber.number what) lost)) ≤ length (now out) ⌝ }
+    ensures { λ r. ⌜ Put (entryLine port (damage (DamageNumber.number what) lost)) (now (out .entry)) r (now (out .exit)) ⌝ }
 {
-    listing_text::damage(port, what.number(), out).length()
+    listing_text::damage(port, what.number(), lost, out).length()
 }

@@ -97,12 +97,12 @@ map-length f (a ∷ l) = ap suc (map-length f l)
 messages-few : (port : ℕ) (es : List (Event Shown)) → messagesIn (entriesOn port es) ≤ length es
 messages-few port [] = omega arith
 messages-few port (message m ∷ es) = omega (arith, messages-few port es)
-messages-few port (damage n ∷ es) = omega (arith, messages-few port es)
+messages-few port (damage n lost ∷ es) = omega (arith, messages-few port es)
 
 damages-few : (port : ℕ) (es : List (Event Shown)) → damagesIn (entriesOn port es) ≤ length es
 damages-few port [] = omega arith
 damages-few port (message m ∷ es) = omega (arith, damages-few port es)
-damages-few port (damage n ∷ es) = omega (arith, damages-few port es)
+damages-few port (damage n lost ∷ es) = omega (arith, damages-few port es)
 
 module _ (l : Listing) (sound : Sound l) (s : List ℕ) (g : T (areBytes s)) (w : Whole s) (below : l .packets < packetsMax) where
   abbrev at : Seat

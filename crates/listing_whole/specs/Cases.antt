@@ -1,4 +1,4 @@
--- Document 01's own listings: input and whole output.
+-- Document 01's own listings, and one with a damage as document 02 has it: input and whole output.
 use mathlib.Core.Path.{_≡_}
 use mathlib.Core.List.{[], _∷_, _++_}
 use Rattle.numbers.specs.Texts.{text}
@@ -9,6 +9,12 @@ abbrev pub L1 : Type 0
 L1 =
     listingOf (0x53 ∷ 0x42 ∷ 0x52 ∷ 0x00 ∷ 0x01 ∷ 0x01 ∷ 0x0C ∷ 0x7E ∷ 0xFF ∷ 0x03 ∷ 0x00 ∷ 0x02 ∷ 0x11 ∷ 0xFF ∷ 0x00 ∷ 0x15 ∷ 0x79 ∷ 0x91 ∷ 0x7E ∷ [])
     ≡ text "port answer from to code data\n" ++ (text "1 1 0002 11FF 15 -\n" ++ text "end 1 0\n")
+
+-- one packet, one stretch with a broken pair: it loses the four bytes between the flags, as they were sent
+abbrev pub BrokenStretch : Type 0
+BrokenStretch =
+    listingOf (0x53 ∷ 0x42 ∷ 0x52 ∷ 0x00 ∷ 0x01 ∷ 0x01 ∷ 0x06 ∷ 0x7E ∷ 0xFF ∷ 0x03 ∷ 0x7D ∷ 0x00 ∷ 0x7E ∷ [])
+    ≡ text "port answer from to code data\n" ++ (text "1 2 4\n" ++ text "end 0 1\n")
 
 -- empty input gives the header and `end 0 0`
 abbrev pub Nothing : Type 0

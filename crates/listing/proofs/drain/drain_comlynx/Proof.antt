@@ -80,13 +80,13 @@ abbrev reader : tie.At-loop Inv-loop μ-loop → Reader
 reader l = readerOf (l .loop .held) (l .loop .s)
 
 abbrev heldLater : tie.After-step-in-place Inv-loop μ-loop → List ℕ
-heldLater c = c .step-in-place .last .1 .1 .0
+heldLater c = c .step-in-place .last .1 .1 .1 .0
 
 abbrev result : tie.After-step-in-place Inv-loop μ-loop → Step
 result c = together (heldLater c) (c .step-in-place .result)
 
 abbrev later : tie.After-step-in-place Inv-loop μ-loop → List ℕ
-later c = c .step-in-place .last .1 .1 .1 .1 .0
+later c = c .step-in-place .last .1 .1 .1 .1 .1 .0
 
 stepped : (c : tie.After-step-in-place Inv-loop μ-loop) → IsStep (reader (turn c)) (leftOf (turn c)) (turn c .loop .lent) (result c) (later c)
 stepped c =
@@ -98,10 +98,10 @@ lent-least : (c : tie.After-step-in-place Inv-loop μ-loop) → lentLeast ≤ le
 lent-least c = omega (arith, turn c .loop .inv .1)
 
 lent-later : (c : tie.After-step-in-place Inv-loop μ-loop) → length (later c) ≡ length (turn c .loop .lent)
-lent-later c = c .step-in-place .kept .1 .1 .1 .1 .0
+lent-later c = c .step-in-place .kept .1 .1 .1 .1 .1 .0
 
 held-later : (c : tie.After-step-in-place Inv-loop μ-loop) → length (heldLater c) ≡ length (turn c .loop .held)
-held-later c = c .step-in-place .kept .1 .1 .0
+held-later c = c .step-in-place .kept .1 .1 .1 .0
 
 used-at-most : (c : tie.After-step-in-place Inv-loop μ-loop) → result c .used ≤ length (leftOf (turn c))
 used-at-most c = step-used next inRange header (λ m. m .payload) shown (reader (turn c)) (leftOf (turn c)) (turn c .loop .lent) (later c) (result c) (stepped c)
@@ -273,12 +273,12 @@ enum-known-answer-2 c = search needs
 sub-damage-line : tie.Need-sub-damage-line Inv-loop μ-loop
 sub-damage-line c =
     let k = back (c .before .before .before) in
-    omega (arith, room k (Damaged (c .before .answer2 .given .0 .0)) (c .before .answer2 .given .1) tt, wide (turn k))
+    omega (arith, room k (Damaged (c .before .answer2 .given .0 .0) (c .before .answer2 .given .0 .1 .0)) (c .before .answer2 .given .1) tt, wide (turn k))
 
 part-damage-line-start : tie.Need-part-damage-line-start Inv-loop μ-loop
 part-damage-line-start c =
     let k = back (c .before .before .before) in
-    omega (arith, room k (Damaged (c .before .answer2 .given .0 .0)) (c .before .answer2 .given .1) tt, wide (turn k))
+    omega (arith, room k (Damaged (c .before .answer2 .given .0 .0) (c .before .answer2 .given .0 .1 .0)) (c .before .answer2 .given .1) tt, wide (turn k))
 
 part-damage-line-end : tie.Need-part-damage-line-end Inv-loop μ-loop
 part-damage-line-end c = search needs
@@ -287,13 +287,13 @@ damage-line-requires : tie.Need-damage-line-requires Inv-loop μ-loop
 damage-line-requires c κs =
     let k = back (c .before .before .before .before) in
     let g = c .before .before .answer2 .given in
-    part-room k (Damaged (g .0 .0)) (g .1) tt
+    part-room k (Damaged (g .0 .0) (g .0 .1 .0)) (g .1) tt
 
 add-wrote-2 : tie.Need-add-wrote-2 Inv-loop μ-loop
 add-wrote-2 c =
     let k = back (c .before .before .before .before .before .before .before) in
     let g = c .before .before .before .before .before .answer2 .given in
-    omega (arith, room k (Damaged (g .0 .0)) (g .1) tt, c .before .before .damage-line .ensures .0)
+    omega (arith, room k (Damaged (g .0 .0) (g .0 .1 .0)) (g .1) tt, c .before .before .damage-line .ensures .0)
 
 add-damages : tie.Need-add-damages Inv-loop μ-loop
 add-damages c =
@@ -304,17 +304,17 @@ loop-less-3 : tie.Need-loop-less-3 Inv-loop μ-loop
 loop-less-3 c =
     let k = back (c .before .before .before .before .before .before .before) in
     let g = c .before .before .before .before .before .answer2 .given in
-    omega (arith, uses k (Damaged (g .0 .0)) (g .1) tt, moves k (Damaged (g .0 .0)) (g .1) tt)
+    omega (arith, uses k (Damaged (g .0 .0) (g .0 .1 .0)) (g .1) tt, moves k (Damaged (g .0 .0) (g .0 .1 .0)) (g .1) tt)
 
 loop-again-3 : tie.Need-loop-again-3 Inv-loop μ-loop
 loop-again-3 c =
     let k = back (c .before .before .before .before .before .before .before) in
     let g = c .before .before .before .before .before .answer2 .given in
     let l = turn k .loop in
-    let a = Damaged (g .0 .0) in
+    let a = Damaged (g .0 .0) (g .0 .1 .0) in
     let put = c .before .before .damage-line in
     keeps k a (g .1) tt _ _ _ _ (ap (λ (n : ℕ). l .wrote + n) (put .ensures .0)) (sym (add-zero (l .messages))) refl
-    (into (l .out) (put .last .1 .1 .0) (lineTold k a) (l .wrote) (omega (arith, room k a (g .1) tt, wide (turn k))) (put .ensures .1))
+    (into (l .out) (put .last .1 .1 .1 .0) (lineTold k a) (l .wrote) (omega (arith, room k a (g .1) tt, wide (turn k))) (put .ensures .1))
 
 enum-told-2 : tie.Need-enum-told-2 Inv-loop μ-loop
 enum-told-2 c = search needs

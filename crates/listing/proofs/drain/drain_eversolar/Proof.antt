@@ -273,12 +273,12 @@ enum-known-answer-2 c = search needs
 sub-damage-line : tie.Need-sub-damage-line Inv-loop μ-loop
 sub-damage-line c =
     let k = back (c .before .before .before) in
-    omega (arith, room k (Damaged (c .before .answer2 .given .0 .0)) (c .before .answer2 .given .1) tt, wide (turn k))
+    omega (arith, room k (Damaged (c .before .answer2 .given .0 .0) (c .before .answer2 .given .0 .1 .0)) (c .before .answer2 .given .1) tt, wide (turn k))
 
 part-damage-line-start : tie.Need-part-damage-line-start Inv-loop μ-loop
 part-damage-line-start c =
     let k = back (c .before .before .before) in
-    omega (arith, room k (Damaged (c .before .answer2 .given .0 .0)) (c .before .answer2 .given .1) tt, wide (turn k))
+    omega (arith, room k (Damaged (c .before .answer2 .given .0 .0) (c .before .answer2 .given .0 .1 .0)) (c .before .answer2 .given .1) tt, wide (turn k))
 
 part-damage-line-end : tie.Need-part-damage-line-end Inv-loop μ-loop
 part-damage-line-end c = search needs
@@ -287,13 +287,13 @@ damage-line-requires : tie.Need-damage-line-requires Inv-loop μ-loop
 damage-line-requires c κs =
     let k = back (c .before .before .before .before) in
     let g = c .before .before .answer2 .given in
-    part-room k (Damaged (g .0 .0)) (g .1) tt
+    part-room k (Damaged (g .0 .0) (g .0 .1 .0)) (g .1) tt
 
 add-wrote-2 : tie.Need-add-wrote-2 Inv-loop μ-loop
 add-wrote-2 c =
     let k = back (c .before .before .before .before .before .before .before) in
     let g = c .before .before .before .before .before .answer2 .given in
-    omega (arith, room k (Damaged (g .0 .0)) (g .1) tt, c .before .before .damage-line .ensures .0)
+    omega (arith, room k (Damaged (g .0 .0) (g .0 .1 .0)) (g .1) tt, c .before .before .damage-line .ensures .0)
 
 add-damages : tie.Need-add-damages Inv-loop μ-loop
 add-damages c =
@@ -304,17 +304,17 @@ loop-less-3 : tie.Need-loop-less-3 Inv-loop μ-loop
 loop-less-3 c =
     let k = back (c .before .before .before .before .before .before .before) in
     let g = c .before .before .before .before .before .answer2 .given in
-    omega (arith, uses k (Damaged (g .0 .0)) (g .1) tt, moves k (Damaged (g .0 .0)) (g .1) tt)
+    omega (arith, uses k (Damaged (g .0 .0) (g .0 .1 .0)) (g .1) tt, moves k (Damaged (g .0 .0) (g .0 .1 .0)) (g .1) tt)
 
 loop-again-3 : tie.Need-loop-again-3 Inv-loop μ-loop
 loop-again-3 c =
     let k = back (c .before .before .before .before .before .before .before) in
     let g = c .before .before .before .before .before .answer2 .given in
     let l = turn k .loop in
-    let a = Damaged (g .0 .0) in
+    let a = Damaged (g .0 .0) (g .0 .1 .0) in
     let put = c .before .before .damage-line in
     keeps k a (g .1) tt _ _ _ _ (ap (λ (n : ℕ). l .wrote + n) (put .ensures .0)) (sym (add-zero (l .messages))) refl
-    (into (l .out) (put .last .1 .1 .0) (lineTold k a) (l .wrote) (omega (arith, room k a (g .1) tt, wide (turn k))) (put .ensures .1))
+    (into (l .out) (put .last .1 .1 .1 .0) (lineTold k a) (l .wrote) (omega (arith, room k a (g .1) tt, wide (turn k))) (put .ensures .1))
 
 enum-told-2 : tie.Need-enum-told-2 Inv-loop μ-loop
 enum-told-2 c = search needs

@@ -26,7 +26,7 @@ returns c =
     let m = c .before .before .before in
     let n = m .before .before in
     let s = n .before .before in
-    put-line false (damageLine (s .args .port) (DamageNumber.number (s .args .what))) (s .args .out .now) _ (m .damage .result) _ (rw (n .number .ensures) at (m .damage .ensures)) refl (s .pre) (c .length .ensures)
+    put-line false (damageLine (s .args .port) (DamageNumber.number (s .args .what)) (s .args .lost)) (s .args .out .now) _ (m .damage .result) _ (rw (n .number .ensures) at (m .damage .ensures)) refl (s .pre) (c .length .ensures)
 
 pub damage-line-spec : {M : Type 1} → statement M
 damage-line-spec = tie.close (tie.spec number-requires damage-requires length-requires same-length returns)
