@@ -10,16 +10,16 @@ use test_parts::high;
 use test_parts::low;
 use test_parts::word_at;
 
-// What is read is told in so many bytes: the answer, then from, to and code of a message in two bytes each, then how many data bytes it has and
-// how many bytes of the frame were used. What a family has not of them is 0. Every count is below 256.
-pub(crate) const READ: usize = 9;
+// What is read is told in so many bytes: the answer, then from, to and code of a message in two bytes each, then how many data bytes it has, how
+// many bytes a damage lost, and how many bytes of the frame were used. What an answer or a family has not of them is 0. Every count is below 256.
+pub(crate) const READ: usize = 10;
 
 // The answer with which a message is given.
 pub(crate) const MESSAGE: u8 = 1;
 
 // Tells what is no message.
-fn no_message(answer: u8, used: usize) -> [u8; READ] {
-    [answer, 0, 0, 0, 0, 0, 0, 0, low(used)]
+fn no_message(answer: u8, lost: usize, used: usize) -> [u8; READ] {
+    [answer, 0, 0, 0, 0, 0, 0, 0, low(lost), low(used)]
 }
 
 // Tells a message by the two bytes of its from, to and code.
@@ -36,6 +36,7 @@ fn message(from: u16, to: u16, code: u16, len: usize, used: usize) -> [u8; READ]
         high(code),
         low(code),
         low(len),
+        0,
         low(used),
     ]
 }
@@ -56,12 +57,12 @@ fn fronius_message(h: fronius::Header, used: usize) -> [u8; READ] {
 
 fn told(answer: Answer, used: usize) -> [u8; READ] {
     match answer {
-        Answer::Done => no_message(0, used),
+        Answer::Done => no_message(0, 0, used),
         Answer::ComLynx(h) => comlynx_message(h, used),
         Answer::Eversolar(h) => eversolar_message(h, used),
         Answer::Fronius(h) => fronius_message(h, used),
-        Answer::Damaged(what) => no_message(what.number(), used),
-        Answer::Refused(why) => no_message(why.number(), used),
+        Answer::Damaged { what, lost } => no_message(what.number(), lost as usize, used),
+        Answer::Refused(why) => no_message(why.number(), 0, used),
     }
 }
 

@@ -16,7 +16,7 @@ use test_parts::part;
 use test_parts::size_at;
 
 // A record has a front, then room for a payload and room for a frame.
-const FRONT: usize = 12;
+const FRONT: usize = 13;
 
 const PAYLOAD: usize = 48;
 
@@ -32,7 +32,7 @@ const NUMBER: usize = 1;
 
 const TO_READ: usize = 2;
 
-const PRINTED: usize = 11;
+const PRINTED: usize = 12;
 
 // Where what is read has its parts. From, to and code are two bytes each, one behind the other.
 const ANSWER: usize = 0;
@@ -45,7 +45,9 @@ const CODE: usize = 5;
 
 const PAYLOAD_SIZE: usize = 7;
 
-const USED: usize = 8;
+const LOST: usize = 8;
+
+const USED: usize = 9;
 
 const PAIR: usize = 2;
 
@@ -111,9 +113,10 @@ fn print_payload(s: &[u8]) {
     print_bytes(s);
 }
 
-// From, to, code and payload of a message.
-fn print_message(got: &[u8], lent: &[u8]) {
+// From, to, code and payload of a message; of anything else how many bytes were lost.
+fn print_read(got: &[u8], lent: &[u8]) {
     if byte_at(got, ANSWER) != MESSAGE {
+        print_number(byte_at(got, LOST));
         return;
     }
     print_bytes(part(got, FROM, PAIR));
@@ -145,7 +148,7 @@ fn report(record: &[u8], got: &[u8], lent: &[u8], again: &[u8]) {
     print_number(byte_at(record, DOCUMENT));
     print_number(byte_at(record, NUMBER));
     print_number(byte_at(got, ANSWER));
-    print_message(got, lent);
+    print_read(got, lent);
     let answer = byte_at(record, TO_READ);
     print_verdict(
         agrees(reads(record, got, lent), writes(record, again), answer),
