@@ -32,7 +32,7 @@ fn kind_told(kind: u8, n: u64) -> [u8; HEAD] {
 
 // An answer number and three bytes.
 fn three_told(number: u8, one: u8, two: u8, three: u8) -> [u8; HEAD] {
-    [number, one, two, three, 0, 0, 0, 0, 0, 0, 0]
+    [number, one, two, three, 0, 0, 0, 0, 0, 0, 0, 0, 0]
 }
 
 pub(crate) fn refused(why: Refusal) -> [u8; HEAD] {
@@ -157,7 +157,21 @@ fn word_bytes(word: u16) -> [u8; HEAD] {
 }
 
 fn packet_told(port: u8, count: u8, used: usize) -> [u8; HEAD] {
-    [0, port, count, low(used), high(used), 0, 0, 0, 0, 0, 0]
+    [
+        0,
+        port,
+        count,
+        low(used),
+        high(used),
+        0,
+        0,
+        0,
+        0,
+        0,
+        0,
+        0,
+        0,
+    ]
 }
 
 fn packet(bytes: &[u8]) -> [u8; HEAD] {

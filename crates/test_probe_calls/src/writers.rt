@@ -1,6 +1,6 @@
 // The writers of the families and of the packet, and the requests of the Eversolar master.
 use crate::heads::HEAD;
-use crate::heads::size_told;
+use crate::heads::told;
 use crate::wire::past_list;
 use crate::wire::word_at;
 use answers::Written;
@@ -64,5 +64,5 @@ pub(crate) fn write(op: u8, s: &[u8], first: &[u8], lent: &mut [u8]) -> Written 
 }
 
 pub(crate) fn written(w: Written) -> [u8; HEAD] {
-    size_told(w.number(), w.length())
+    told(w.number(), w.length() as u64)
 }

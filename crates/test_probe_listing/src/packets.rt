@@ -53,6 +53,8 @@ fn came(number: u8, what: u8, used: usize, wrote: usize) -> [u8; HEAD] {
         0,
         0,
         0,
+        0,
+        0,
     ]
 }
 

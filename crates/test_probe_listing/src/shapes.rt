@@ -62,7 +62,7 @@ fn line(front: usize, lists: u8) -> Shape {
 pub(crate) fn shape_of(op: u8) -> Shape {
     match op {
         0x81 => line(0, 1),
-        0x83 => line(2, 1),
+        0x83 => line(4, 1),
         0x84 => line(1, 1),
         0x85 => line(16, 1),
         0x86 => fresh(PORTS_STATE),

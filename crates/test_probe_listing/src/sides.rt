@@ -21,8 +21,8 @@ use test_parts::high;
 use test_parts::low;
 use test_parts::part;
 
-// How many bytes are told where all three lists are empty: the number, the bytes used, the length of each list, and how many data bytes there are.
-const TOLD: usize = 1 + 5 * WORD;
+// How many bytes are told where all three lists are empty: the number, the bytes used and lost, the length of each list, and how many data bytes there are.
+const TOLD: usize = 1 + 6 * WORD;
 
 // A state is read behind the byte that its bytes begin with, be it the opcode or the last of the state before.
 pub(crate) fn ports_of(s: &[u8]) -> Ports {
@@ -45,11 +45,12 @@ pub(crate) fn say_ports(ports: Ports) {
     say_fronius(third);
 }
 
-// Puts out what is told of an answer: first its length with all that follows behind it, then the number and the bytes used. Of a message from,
+// Puts out what is told of an answer: first its length with all that follows behind it, then the number and the bytes used and lost. Of a message from,
 // to, code and the number of its data bytes follow.
 fn say_told(
     number: u8,
     used: usize,
+    lost: usize,
     from: &[u8],
     to: &[u8],
     code: &[u8],
@@ -61,14 +62,15 @@ fn say_told(
     say_size(further(further(TOLD, lists), behind));
     say(&number);
     say_size(used);
+    say_size(lost);
     say_list(from);
     say_list(to);
     say_list(code);
     say_size(len);
 }
 
-fn say_number(number: u8, used: usize, behind: usize) {
-    say_told(number, used, b"", b"", b"", 0, behind);
+fn say_number(number: u8, used: usize, lost: usize, behind: usize) {
+    say_told(number, used, lost, b"", b"", b"", 0, behind);
 }
 
 fn say_comlynx_message(h: comlynx::Header, used: usize, behind: usize) {
@@ -77,30 +79,30 @@ fn say_comlynx_message(h: comlynx::Header, used: usize, behind: usize) {
     let from = [high(source), low(source)];
     let to = [high(destination), low(destination)];
     let code = [h.kind];
-    say_told(MESSAGE, used, &from, &to, &code, h.len, behind);
+    say_told(MESSAGE, used, 0, &from, &to, &code, h.len, behind);
 }
 
 fn say_eversolar_message(h: eversolar::Header, used: usize, behind: usize) {
     let from = [h.source_first, h.source_second];
     let to = [h.destination_first, h.destination_second];
     let code = [h.control, h.function];
-    say_told(MESSAGE, used, &from, &to, &code, h.len, behind);
+    say_told(MESSAGE, used, 0, &from, &to, &code, h.len, behind);
 }
 
 fn say_fronius_message(h: fronius::Header, used: usize, behind: usize) {
     let to = [h.device, h.number];
     let code = [h.command];
-    say_told(MESSAGE, used, b"", &to, &code, h.len, behind);
+    say_told(MESSAGE, used, 0, b"", &to, &code, h.len, behind);
 }
 
 fn say_answer(answer: Answer, used: usize, behind: usize) {
     match answer {
-        Answer::Done => say_number(0, used, behind),
+        Answer::Done => say_number(0, used, 0, behind),
         Answer::ComLynx(h) => say_comlynx_message(h, used, behind),
         Answer::Eversolar(h) => say_eversolar_message(h, used, behind),
         Answer::Fronius(h) => say_fronius_message(h, used, behind),
-        Answer::Damaged(what) => say_number(what.number(), used, behind),
-        Answer::Refused(why) => say_number(why.number(), used, behind),
+        Answer::Damaged { what, lost } => say_number(what.number(), used, lost as usize, behind),
+        Answer::Refused(why) => say_number(why.number(), used, 0, behind),
     }
 }
 

@@ -1,8 +1,9 @@
 // The lines of a listing.
 use crate::heads::say_head;
-use crate::heads::size_told;
+use crate::heads::told;
 use crate::wire::list_at;
 use crate::wire::quad_at;
+use crate::wire::word_at;
 use answers::Written;
 use test_parts::byte_at;
 
@@ -58,7 +59,7 @@ fn message(op: u8, s: &[u8], lent: &mut [u8]) -> Written {
 fn write(op: u8, s: &[u8], lent: &mut [u8]) -> Written {
     match op {
         0x81 => listing_text::title(lent),
-        0x83 => listing_text::damage(byte_at(s, 1), byte_at(s, 2), lent),
+        0x83 => listing_text::damage(byte_at(s, 1), byte_at(s, 2), word_at(s, 3), lent),
         0x84 => listing_text::stop(byte_at(s, 1), lent),
         0x85 => listing_text::end(quad_at(s, 1), quad_at(s, 9), lent),
         _ => message(op, s, lent),
@@ -67,5 +68,5 @@ fn write(op: u8, s: &[u8], lent: &mut [u8]) -> Written {
 
 pub(crate) fn say_line(op: u8, s: &[u8], lent: &mut [u8], head: usize) {
     let written = write(op, s, lent);
-    say_head(size_told(written.number(), written.length()), head);
+    say_head(told(written.number(), written.length() as u64), head);
 }

@@ -7,8 +7,7 @@ use crate::readers::fronius_head;
 use crate::shapes::COMLYNX_HEAD;
 use crate::shapes::EVERSOLAR_HEAD;
 use crate::shapes::FRONIUS_HEAD;
-use crate::states::COMLYNX_NUMBERS;
-use crate::states::OTHER_NUMBERS;
+use crate::states::NUMBERS;
 use crate::wire::WORD;
 use crate::wire::list_at;
 use crate::wire::past_list;
@@ -17,6 +16,7 @@ use crate::wire::say;
 use crate::wire::say_list;
 use crate::wire::say_size;
 use crate::wire::size_at;
+use crate::wire::word_at;
 use numbers::least;
 use test_parts::byte_at;
 use test_parts::further;
@@ -25,39 +25,41 @@ use test_parts::part;
 // How many held bytes are lent at most: more than any reader holds.
 const HELD_MAX: usize = 512;
 
-// Where a call has its numbers, and where its lists begin: ComLynx has no length.
+// Where a call has its numbers, and where its lists begin.
 const STAGE: usize = 1;
 
 const COUNT: usize = 2;
 
 const LEN: usize = 4;
 
-const COMLYNX_LISTS: usize = 1 + COMLYNX_NUMBERS;
+const CAME: usize = 4;
 
-const OTHER_LISTS: usize = 1 + OTHER_NUMBERS;
+const LISTS: usize = 1 + NUMBERS;
 
 // The piece stands behind the held bytes.
-fn piece_at(s: &[u8], lists: usize) -> &[u8] {
-    list_at(s, past_list(s, lists))
+fn piece_of(s: &[u8]) -> &[u8] {
+    list_at(s, past_list(s, LISTS))
 }
 
-fn say_numbers(stage: u8, count: usize) {
+fn say_numbers(stage: u8, count: usize, last: usize) {
     let stage = [stage];
     say(&stage);
     say_size(count);
+    say_size(last);
 }
 
 fn comlynx(s: &[u8], held: &mut [u8], lent: &mut [u8]) {
     let step = comlynx::step_in_place(
         byte_at(s, STAGE),
+        word_at(s, CAME),
         size_at(s, COUNT),
         held,
-        piece_at(s, COMLYNX_LISTS),
+        piece_of(s),
         lent,
     );
     let answer = step.answer;
     say_head(comlynx_head(answer, step.used), COMLYNX_HEAD);
-    say_numbers(step.stage, step.count);
+    say_numbers(step.stage, step.count, step.came as usize);
 }
 
 fn eversolar(s: &[u8], held: &mut [u8], lent: &mut [u8]) {
@@ -66,13 +68,12 @@ fn eversolar(s: &[u8], held: &mut [u8], lent: &mut [u8]) {
         size_at(s, COUNT),
         size_at(s, LEN),
         held,
-        piece_at(s, OTHER_LISTS),
+        piece_of(s),
         lent,
     );
     let answer = step.answer;
     say_head(eversolar_head(answer, step.used), EVERSOLAR_HEAD);
-    say_numbers(step.stage, step.count);
-    say_size(step.len);
+    say_numbers(step.stage, step.count, step.len);
 }
 
 fn fronius(s: &[u8], held: &mut [u8], lent: &mut [u8]) {
@@ -81,13 +82,12 @@ fn fronius(s: &[u8], held: &mut [u8], lent: &mut [u8]) {
         size_at(s, COUNT),
         size_at(s, LEN),
         held,
-        piece_at(s, OTHER_LISTS),
+        piece_of(s),
         lent,
     );
     let answer = step.answer;
     say_head(fronius_head(answer, step.used), FRONIUS_HEAD);
-    say_numbers(step.stage, step.count);
-    say_size(step.len);
+    say_numbers(step.stage, step.count, step.len);
 }
 
 fn make(op: u8, s: &[u8], held: &mut [u8], lent: &mut [u8]) {
@@ -101,9 +101,9 @@ fn make(op: u8, s: &[u8], held: &mut [u8], lent: &mut [u8]) {
 // How many bytes a result has up to the held bytes.
 fn told_of(op: u8) -> usize {
     match op {
-        0x07 => COMLYNX_HEAD + COMLYNX_NUMBERS,
-        0x08 => EVERSOLAR_HEAD + OTHER_NUMBERS,
-        _ => FRONIUS_HEAD + OTHER_NUMBERS,
+        0x07 => COMLYNX_HEAD + NUMBERS,
+        0x08 => EVERSOLAR_HEAD + NUMBERS,
+        _ => FRONIUS_HEAD + NUMBERS,
     }
 }
 

@@ -2,7 +2,6 @@
 // the state.
 use crate::heads::HEAD;
 use crate::heads::say_head;
-use crate::heads::size_told;
 use crate::heads::told;
 use crate::states::MESSAGE;
 use crate::states::comlynx_state;
@@ -14,6 +13,25 @@ use crate::states::say_fronius;
 use test_parts::high;
 use test_parts::low;
 
+// What is told where there is no message: the answer number, the bytes used, and how many were lost.
+fn no_message(number: u8, used: usize, lost: usize) -> [u8; HEAD] {
+    [
+        number,
+        low(used),
+        high(used),
+        low(lost),
+        high(lost),
+        0,
+        0,
+        0,
+        0,
+        0,
+        0,
+        0,
+        0,
+    ]
+}
+
 // ---- ComLynx
 
 fn comlynx_message(h: comlynx::Header, used: usize) -> [u8; HEAD] {
@@ -23,6 +41,8 @@ fn comlynx_message(h: comlynx::Header, used: usize) -> [u8; HEAD] {
         MESSAGE,
         low(used),
         high(used),
+        0,
+        0,
         low(source),
         high(source),
         low(destination),
@@ -36,10 +56,10 @@ fn comlynx_message(h: comlynx::Header, used: usize) -> [u8; HEAD] {
 
 pub(crate) fn comlynx_head(answer: comlynx::Answer, used: usize) -> [u8; HEAD] {
     match answer {
-        comlynx::Answer::Done => size_told(0, used),
+        comlynx::Answer::Done => no_message(0, used, 0),
         comlynx::Answer::Message(h) => comlynx_message(h, used),
-        comlynx::Answer::Damaged(what) => size_told(what.number(), used),
-        comlynx::Answer::Refused(why) => size_told(why.number(), used),
+        comlynx::Answer::Damaged { what, lost } => no_message(what.number(), used, lost as usize),
+        comlynx::Answer::Refused(why) => no_message(why.number(), used, 0),
     }
 }
 
@@ -58,6 +78,8 @@ fn eversolar_message(h: eversolar::Header, used: usize) -> [u8; HEAD] {
         MESSAGE,
         low(used),
         high(used),
+        0,
+        0,
         h.source_first,
         h.source_second,
         h.destination_first,
@@ -71,10 +93,10 @@ fn eversolar_message(h: eversolar::Header, used: usize) -> [u8; HEAD] {
 
 pub(crate) fn eversolar_head(answer: eversolar::Answer, used: usize) -> [u8; HEAD] {
     match answer {
-        eversolar::Answer::Done => size_told(0, used),
+        eversolar::Answer::Done => no_message(0, used, 0),
         eversolar::Answer::Message(h) => eversolar_message(h, used),
-        eversolar::Answer::Damaged(what) => size_told(what.number(), used),
-        eversolar::Answer::Refused(why) => size_told(why.number(), used),
+        eversolar::Answer::Damaged { what, lost } => no_message(what.number(), used, lost as usize),
+        eversolar::Answer::Refused(why) => no_message(why.number(), used, 0),
     }
 }
 
@@ -93,6 +115,8 @@ fn fronius_message(h: fronius::Header, used: usize) -> [u8; HEAD] {
         MESSAGE,
         low(used),
         high(used),
+        0,
+        0,
         h.device,
         h.number,
         h.command,
@@ -106,10 +130,10 @@ fn fronius_message(h: fronius::Header, used: usize) -> [u8; HEAD] {
 
 pub(crate) fn fronius_head(answer: fronius::Answer, used: usize) -> [u8; HEAD] {
     match answer {
-        fronius::Answer::Done => size_told(0, used),
+        fronius::Answer::Done => no_message(0, used, 0),
         fronius::Answer::Message(h) => fronius_message(h, used),
-        fronius::Answer::Damaged(what) => size_told(what.number(), used),
-        fronius::Answer::Refused(why) => size_told(why.number(), used),
+        fronius::Answer::Damaged { what, lost } => no_message(what.number(), used, lost as usize),
+        fronius::Answer::Refused(why) => no_message(why.number(), used, 0),
     }
 }
 

@@ -1,18 +1,17 @@
 // The calls of the readers of one family: the bytes of each, and of its result.
 use crate::session::Shape;
 use crate::session::unlisted;
-use crate::states::COMLYNX_NUMBERS;
 use crate::states::COMLYNX_STATE;
 use crate::states::EVERSOLAR_STATE;
 use crate::states::FRONIUS_STATE;
-use crate::states::OTHER_NUMBERS;
+use crate::states::NUMBERS;
 
 // How many bytes are told of a reader's answer.
-pub(crate) const COMLYNX_HEAD: usize = 10;
+pub(crate) const COMLYNX_HEAD: usize = 12;
 
-pub(crate) const EVERSOLAR_HEAD: usize = 11;
+pub(crate) const EVERSOLAR_HEAD: usize = 13;
 
-pub(crate) const FRONIUS_HEAD: usize = 8;
+pub(crate) const FRONIUS_HEAD: usize = 10;
 
 // Who makes a call.
 pub(crate) const COMLYNX: u8 = 1;
@@ -52,10 +51,10 @@ fn fresh(state: usize) -> Shape {
 }
 
 // A call that reads over held bytes that it lends too, the first of its lists. It has a piece and a lent list, and its numbers stand in front.
-fn in_place(numbers: usize) -> Shape {
+fn in_place() -> Shape {
     Shape {
         who: IN_PLACE,
-        front: numbers,
+        front: NUMBERS,
         lists: 3,
         between: 0,
         head: 0,
@@ -72,9 +71,9 @@ pub(crate) fn shape_of(op: u8) -> Shape {
         0x04 => fresh(COMLYNX_STATE),
         0x05 => fresh(EVERSOLAR_STATE),
         0x06 => fresh(FRONIUS_STATE),
-        0x07 => in_place(COMLYNX_NUMBERS),
-        0x08 => in_place(OTHER_NUMBERS),
-        0x09 => in_place(OTHER_NUMBERS),
+        0x07 => in_place(),
+        0x08 => in_place(),
+        0x09 => in_place(),
         _ => unlisted(),
     }
 }

@@ -3,7 +3,7 @@
 use crate::wire::say;
 use test_parts::part;
 
-pub(crate) const HEAD: usize = 11;
+pub(crate) const HEAD: usize = 13;
 
 // A byte of a number, by the power of 256 that it counts.
 fn byte_of(n: u64, power: u64) -> u8 {
@@ -27,11 +27,9 @@ pub(crate) fn told(number: u8, n: u64) -> [u8; HEAD] {
         byte_of(n, 0x100000000000000),
         0,
         0,
+        0,
+        0,
     ]
-}
-
-pub(crate) fn size_told(number: u8, n: usize) -> [u8; HEAD] {
-    told(number, n as u64)
 }
 
 // Puts out as much of a head as counts.

@@ -3,29 +3,28 @@ use crate::wire::put;
 use crate::wire::say;
 use crate::wire::say_size;
 use crate::wire::size_at;
+use crate::wire::word_at;
 use test_parts::byte_at;
 use test_parts::part;
 
 // The answer number of a message.
 pub(crate) const MESSAGE: u8 = 1;
 
-// How many bytes the numbers of a state have: ComLynx has no length.
-pub(crate) const COMLYNX_NUMBERS: usize = 3;
-
-pub(crate) const OTHER_NUMBERS: usize = 5;
+// How many bytes the numbers of a state have: the stage, the count, and the length, of ComLynx how many bytes came.
+pub(crate) const NUMBERS: usize = 5;
 
 // Where a reader's held bytes end in a state, and where the state ends.
 pub(crate) const COMLYNX_HELD: usize = 265;
 
-pub(crate) const COMLYNX_STATE: usize = COMLYNX_HELD + COMLYNX_NUMBERS;
+pub(crate) const COMLYNX_STATE: usize = COMLYNX_HELD + NUMBERS;
 
 pub(crate) const EVERSOLAR_HELD: usize = 263;
 
-pub(crate) const EVERSOLAR_STATE: usize = EVERSOLAR_HELD + OTHER_NUMBERS;
+pub(crate) const EVERSOLAR_STATE: usize = EVERSOLAR_HELD + NUMBERS;
 
 pub(crate) const FRONIUS_HELD: usize = 130;
 
-pub(crate) const FRONIUS_STATE: usize = FRONIUS_HELD + OTHER_NUMBERS;
+pub(crate) const FRONIUS_STATE: usize = FRONIUS_HELD + NUMBERS;
 
 // Where a state has its numbers behind its held bytes. The byte before the state, an opcode or the last byte of another state, counts too.
 const STAGE: usize = 1;
@@ -34,12 +33,15 @@ const COUNT: usize = 2;
 
 const LEN: usize = 4;
 
-// Puts out what every family's state has.
-fn say_state(held: &[u8], stage: u8, count: usize) {
+const CAME: usize = 4;
+
+// Puts out a state, whose last number is its length or how many bytes came.
+fn say_state(held: &[u8], stage: u8, count: usize, last: usize) {
     let stage = [stage];
     say(held);
     say(&stage);
     say_size(count);
+    say_size(last);
 }
 
 // ---- ComLynx
@@ -50,13 +52,14 @@ pub(crate) fn comlynx_state(s: &[u8]) -> comlynx::Reader {
     comlynx::Reader {
         held,
         stage: byte_at(s, COMLYNX_HELD + STAGE),
+        came: word_at(s, COMLYNX_HELD + CAME),
         count: size_at(s, COMLYNX_HELD + COUNT),
     }
 }
 
 pub(crate) fn say_comlynx(state: comlynx::Reader) {
     let held = state.held;
-    say_state(&held, state.stage, state.count);
+    say_state(&held, state.stage, state.count, state.came as usize);
 }
 
 // ---- Eversolar
@@ -74,8 +77,7 @@ pub(crate) fn eversolar_state(s: &[u8]) -> eversolar::Reader {
 
 pub(crate) fn say_eversolar(state: eversolar::Reader) {
     let held = state.held;
-    say_state(&held, state.stage, state.count);
-    say_size(state.len);
+    say_state(&held, state.stage, state.count, state.len);
 }
 
 // ---- Fronius
@@ -93,6 +95,5 @@ pub(crate) fn fronius_state(s: &[u8]) -> fronius::Reader {
 
 pub(crate) fn say_fronius(state: fronius::Reader) {
     let held = state.held;
-    say_state(&held, state.stage, state.count);
-    say_size(state.len);
+    say_state(&held, state.stage, state.count, state.len);
 }
