@@ -105,7 +105,7 @@ fn take(listing: &mut Listing, packet: &Packet, input: &[u8], lent: &mut [u8]) -
                 listing.messages += 1;
             }
             (damage, None) => {
-                text.push_str(&lines::damage(port, damage));
+                text.push_str(&lines::damage(port, damage, reading.lost));
                 listing.damages += 1;
             }
         }

@@ -97,8 +97,8 @@ pub fn shape(family: Family) -> Shape {
             family,
             op: 0x01,
             held: 265,
-            state: 268,
-            state_in_result: 10,
+            state: 270,
+            state_in_result: 12,
             chain: "ComLynx reader, stream in pieces",
             forged: "ComLynx reader, forged state",
             grid: "ComLynx reader, limits of the state",
@@ -109,7 +109,7 @@ pub fn shape(family: Family) -> Shape {
             op: 0x02,
             held: 263,
             state: 268,
-            state_in_result: 11,
+            state_in_result: 13,
             chain: "Eversolar reader, stream in pieces",
             forged: "Eversolar reader, forged state",
             grid: "Eversolar reader, limits of the state",
@@ -120,7 +120,7 @@ pub fn shape(family: Family) -> Shape {
             op: 0x03,
             held: 130,
             state: 135,
-            state_in_result: 8,
+            state_in_result: 10,
             chain: "Fronius reader, stream in pieces",
             forged: "Fronius reader, forged state",
             grid: "Fronius reader, limits of the state",
@@ -134,14 +134,13 @@ pub fn fresh_state(shape: Shape) -> Vec<u8> {
     result[1..].to_vec()
 }
 
-/// A state out of its parts; ComLynx has no length.
-pub fn state_of(shape: Shape, held: &[u8], stage: u8, count: u16, length: u16) -> Vec<u8> {
+/// A state out of its parts, of which the last is how many bytes came for ComLynx and the length
+/// for the others.
+pub fn state_of(held: &[u8], stage: u8, count: u16, last: u16) -> Vec<u8> {
     let mut state = held.to_vec();
     state.push(stage);
     state.extend(count.to_le_bytes());
-    if shape.family != Family::ComLynx {
-        state.extend(length.to_le_bytes());
-    }
+    state.extend(last.to_le_bytes());
     state
 }
 
@@ -208,19 +207,33 @@ pub fn forged_call(family: Family, random: &mut Random) -> Call {
 fn state_of_numbers(shape: Shape, random: &mut Random) -> (Vec<u8>, Vec<u8>) {
     let held = random.content(shape.held);
     let stage = random.pick(&[0, 1, 1, 2, 2, 3, 3, 4, 255]);
-    let length = random.pick(&[0, 0, 1, 2, 126, 127, 128, 254, 255, 256, 65_535]);
+    let last = match shape.family {
+        Family::ComLynx => any_came(random),
+        _ => random.pick(&[0, 0, 1, 2, 126, 127, 128, 254, 255, 256, 65_535]),
+    };
     let near: u16 = random.pick(&[0, 0, 3, 7, 8, 9, 263, 265]);
-    let with_length = near.wrapping_add(random.pick(&[0, 0, length]));
-    let count = with_length.wrapping_add(random.pick(&[0, 0, 1, 2, 65_535]));
+    let with_last = near.wrapping_add(random.pick(&[0, 0, last]));
+    let count = with_last.wrapping_add(random.pick(&[0, 0, 1, 2, 65_535]));
     let piece_length = random.pick(&[0, 1, 2, 5, 20, 300]);
-    (state_of(shape, &held, stage, count, length), random.specials(piece_length))
+    (state_of(&held, stage, count, last), random.specials(piece_length))
 }
 
-/// A frame cut in two: the first part read over held bytes of before, the second part to come.
+/// How many bytes came: few, or so many that the next ones reach 65,535 or pass it.
+fn any_came(random: &mut Random) -> u16 {
+    let near = random.between(65_530, 65_535) as u16;
+    let anywhere = random.word();
+    random.pick(&[0, 0, 0, 1, 9, 255, 256, near, near, near, 65_535 - 300, anywhere])
+}
+
+/// A frame or a damage cut in two: the first part read over held bytes of before, the second part
+/// to come.
 pub fn state_on_the_way(shape: Shape, random: &mut Random) -> (Vec<u8>, Vec<u8>) {
-    let frame = streams::frame(shape.family, random);
+    let frame = match random.one_in(3) {
+        true => streams::shaped(shape.family, random),
+        false => streams::frame(shape.family, random),
+    };
     let (first, second) = frame.split_at(random.between(0, frame.len() - 1));
-    let begin = state_of(shape, &random.specials(shape.held), 0, 0, 0);
+    let begin = state_of(&random.specials(shape.held), 0, 0, 0);
     let call = reader_call(shape, &begin, first, &[0; 255]).bytes;
     let (_, _, mut state) = after(shape, &call);
     if random.one_in(2) {
@@ -230,6 +243,10 @@ pub fn state_on_the_way(shape: Shape, random: &mut Random) -> (Vec<u8>, Vec<u8>)
         let position = random.below(shape.held);
         state[position] = random.special();
     }
+    if shape.family == Family::ComLynx && random.one_in(3) {
+        let came = any_came(random);
+        state[shape.state - 2..].copy_from_slice(&came.to_le_bytes());
+    }
     let mut piece = second.to_vec();
     if random.one_in(3) {
         piece.extend(streams::frame(shape.family, random));
@@ -237,27 +254,28 @@ pub fn state_on_the_way(shape: Shape, random: &mut Random) -> (Vec<u8>, Vec<u8>)
     (state, piece)
 }
 
-/// The stage, the count or the length by one or two more or less.
+/// The stage, the count or the last number by one or two more or less.
 fn spoil_a_number(shape: Shape, state: &mut [u8], random: &mut Random) {
-    let offset = random.pick(&[0, 1, 1, 2, 3, 3]).min(shape.state - shape.held - 1);
+    let offset = random.pick(&[0, 1, 1, 2, 3, 3]);
     let byte = &mut state[shape.held + offset];
     *byte = byte.wrapping_add(random.pick(&[1, 1, 2, 254, 255, 255]));
 }
 
-/// Each stage with counts and lengths on both sides of each limit; every telling piece where the
-/// state is in its range, else one piece, with enough lent and with too little.
+/// Each stage with counts and lengths, or numbers of bytes come, on both sides of each limit;
+/// every telling piece where the state is in its range, else one piece, with enough lent and with
+/// too little.
 pub fn grid_calls(family: Family, random: &mut Random) -> Vec<Call> {
     let (shape, mut calls) = (shape(family), Vec::new());
-    let lengths: &[u16] = match family {
-        Family::ComLynx => &[0],
+    let lasts: &[u16] = match family {
+        Family::ComLynx => &[0, 1, 65_533, 65_535],
         Family::Eversolar => &[0, 1, 254, 255, 256, 65_535],
         Family::Fronius => &[0, 1, 126, 127, 128, 65_535],
     };
     for stage in [0, 1, 2, 3, 4, 255] {
-        for &length in lengths {
-            for count in counts_for(family, length) {
+        for &last in lasts {
+            for count in counts_for(family, last) {
                 let held = random.content(shape.held);
-                let state = state_of(shape, &held, stage, count, length);
+                let state = state_of(&held, stage, count, last);
                 calls_on_a_state(shape, &state, random, &mut calls);
             }
         }
@@ -278,16 +296,16 @@ fn calls_on_a_state(shape: Shape, state: &[u8], random: &mut Random, calls: &mut
     calls.push(reader_call(shape, state, piece, &random.bytes(too_little)).from(shape.grid));
 }
 
-fn counts_for(family: Family, length: u16) -> Vec<u16> {
+fn counts_for(family: Family, last: u16) -> Vec<u16> {
     match family {
         Family::ComLynx => vec![0, 1, 9, 10, 11, 263, 264, 265, 266, 267, 65_535],
         Family::Eversolar => {
-            let last = length.saturating_add(8);
-            vec![0, 1, 5, 6, 7, 8, last - 1, last, last.saturating_add(1), 65_535]
+            let whole = last.saturating_add(8);
+            vec![0, 1, 5, 6, 7, 8, whole - 1, whole, whole.saturating_add(1), 65_535]
         }
         Family::Fronius => {
-            let last = length.saturating_add(3);
-            vec![0, 1, 2, 3, 4, last - 1, last, last.saturating_add(1), 65_535]
+            let whole = last.saturating_add(3);
+            vec![0, 1, 2, 3, 4, whole - 1, whole, whole.saturating_add(1), 65_535]
         }
     }
 }
@@ -341,6 +359,116 @@ fn stretch_matrix(random: &mut Random, calls: &mut Vec<Call>) {
 }
 
 const STRETCHES: &str = "ComLynx reader, stretches with several things wrong";
+
+// ---- bytes lost ----
+
+const CAME: &str = "ComLynx reader, limits of the bytes come";
+const LONG_STRETCHES: &str = "ComLynx reader, stretches longer than can be told";
+const STRETCH_IN_PIECES: &str = "ComLynx reader, one stretch over many calls";
+const LENGTHS_LOST: &str = "bytes lost with every length";
+const FURTHER_80: &str = "Fronius reader, further 80 before a wrong frame";
+
+/// Every stage with so many bytes come that a piece stays below 65,535, reaches it or passes it,
+/// with and without a flag behind the piece.
+fn came_sweep(random: &mut Random, calls: &mut Vec<Call>) {
+    let shape = shape(Family::ComLynx);
+    for stage in 0..=3 {
+        for count in [0, 1, 10, 265, 266] {
+            let near = [65_279, 65_280].into_iter().chain(65_529..=65_535);
+            for came in [0, 1, 2, 254, 255, 256].into_iter().chain(near) {
+                let state = state_of(&random.content(shape.held), stage, count, came);
+                for length in [0, random.between(1, 7), random.pick(&[255, 256, 300])] {
+                    let mut piece = streams::without_flags(random, length);
+                    if length == 0 || random.one_in(2) {
+                        piece.push(0x7E);
+                    }
+                    let lent = random.bytes(255);
+                    calls.push(reader_call(shape, &state, &piece, &lent).from(CAME));
+                }
+            }
+        }
+    }
+}
+
+/// From a fresh state five pieces of as many bytes as a list may have, then a flag: plain bytes,
+/// pairs, a broken pair and plain bytes.
+fn long_stretches(random: &mut Random, calls: &mut Vec<Call>) {
+    let (shape, longest) = (shape(Family::ComLynx), 16_384);
+    let pairs = streams::pair(random).repeat(longest / 2);
+    for (first, piece) in [
+        (&[0x7E][..], vec![0x00; longest]),
+        (&[0x7E], pairs),
+        (&[0x7E, 0x7D, 0x00], vec![0x5E; longest]),
+    ] {
+        let mut state = fresh_state(shape);
+        let pieces = [&[first], &[&piece[..]; 5][..], &[&[0x7E][..]]].concat();
+        for piece in pieces {
+            let call = reader_call(shape, &state, piece, &random.bytes(255)).from(LONG_STRETCHES);
+            state = after(shape, &call.bytes).2;
+            calls.push(call);
+        }
+    }
+}
+
+/// Frames of every length with a wrong sum, read whole, and by a forged state that lacks their last
+/// byte alone, whose length is not the byte held.
+fn lengths_lost(family: Family, random: &mut Random, calls: &mut Vec<Call>) {
+    let shape = shape(family);
+    let (body, held_beside_the_payload) = if family == Family::Eversolar { (3, 8) } else { (1, 3) };
+    for length in 0..=family.most_payload() {
+        let mut frame = streams::frame_with(family, random, vec![0x11; length]);
+        let last = frame.len() - 1;
+        frame[last] = frame[last].wrapping_add(1);
+        let lent = random.bytes(255);
+        calls.push(reader_call(shape, &fresh_state(shape), &frame, &lent).from(LENGTHS_LOST));
+        let count = held_beside_the_payload + length as u16;
+        let state = state_of(&random.content(shape.held), body, count, length as u16);
+        calls.push(reader_call(shape, &state, &random.bytes(1), &lent).from(LENGTHS_LOST));
+    }
+}
+
+/// No or more 80 than a start needs, in the piece or counted by the state, then a wrong length or a
+/// frame with a wrong sum.
+fn further_starts(random: &mut Random, calls: &mut Vec<Call>) {
+    let shape = shape(Family::Fronius);
+    for further in [0, 1, 2, 3, 4, 5, 100, 300] {
+        for counted in 0..=3 {
+            for wrong in [&[0x81][..], &[0xFF], &[0, 0, 0, 1, 2], &[2, 1, 1, 0x10, 4, 0xD2, 0]] {
+                let state = state_of(&random.content(shape.held), 0, counted, 0);
+                let starts = usize::from(3 - counted) + further;
+                let piece = [&vec![0x80; starts], wrong].concat();
+                let lent = random.bytes(255);
+                calls.push(reader_call(shape, &state, &piece, &lent).from(FURTHER_80));
+            }
+        }
+    }
+}
+
+fn lost_sweep(random: &mut Random, calls: &mut Vec<Call>) {
+    came_sweep(random, calls);
+    long_stretches(random, calls);
+    lengths_lost(Family::Eversolar, random, calls);
+    lengths_lost(Family::Fronius, random, calls);
+    further_starts(random, calls);
+}
+
+/// One stretch over many calls, from a state in which any number of bytes may have come.
+fn stretch_chain(_: Family, random: &mut Random, calls: &mut Vec<Call>) {
+    let shape = shape(Family::ComLynx);
+    let (stage, count) = (random.between(1, 3) as u8, random.pick(&[0, 0, 1, 9, 250, 266]));
+    let mut state = state_of(&random.specials(shape.held), stage, count, any_came(random));
+    let longest_piece = random.pick(&[1, 2, 10, 60]);
+    for order in 0..=30 {
+        let length = random.between(0, longest_piece);
+        let mut piece = streams::without_flags(random, length);
+        if order == 30 {
+            piece.push(0x7E);
+        }
+        let call = reader_call(shape, &state, &piece, &random.bytes(255)).from(STRETCH_IN_PIECES);
+        state = after(shape, &call.bytes).2;
+        calls.push(call);
+    }
+}
 
 /// A message whose last byte comes, with every lent length.
 fn reader_lent_lengths(family: Family, random: &mut Random, calls: &mut Vec<Call>) {
@@ -947,6 +1075,7 @@ pub fn sweeps(random: &mut Random) -> Vec<Call> {
     let mut calls = Vec::new();
     fresh_calls(&mut calls);
     stretch_matrix(random, &mut calls);
+    lost_sweep(random, &mut calls);
     for family in FAMILIES {
         calls.extend(grid_calls(family, random));
         reader_lent_lengths(family, random, &mut calls);
@@ -976,7 +1105,8 @@ pub fn random_calls(random: &mut Random, count: usize) -> Vec<Call> {
         let family = random.pick(&FAMILIES);
         match random.below(42) {
             0 => {
-                let chain = random.pick(&[reader_chain, reader_chain, in_place_chain]);
+                let chains = [reader_chain, reader_chain, in_place_chain, stretch_chain];
+                let chain = random.pick(&chains);
                 chain(family, random, &mut calls);
             }
             1..=9 => calls.push(forged_call(family, random)),

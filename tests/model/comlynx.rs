@@ -2,7 +2,9 @@
 
 use crate::checksum;
 use crate::number;
-use crate::{hand_over, not_written, one_call, Event, Outcome, Payload, Reading, Written};
+use crate::{
+    hand_over, losing, not_written, one_call, Event, Outcome, Payload, Reading, Verdict, Written,
+};
 
 pub const FLAG: u8 = 0x7E;
 pub const ESCAPE: u8 = 0x7D;
@@ -94,12 +96,19 @@ fn positions_of_flags(stream: &[u8]) -> Vec<usize> {
 fn event_of_stretch(stream: &[u8], opening: usize, closing: usize) -> Option<Event<Message>> {
     let stretch = &stream[opening + 1..closing];
     let end = closing + 1;
-    judge_stretch(stretch).map(|outcome| Event { end, outcome })
+    judge_stretch(stretch)
+        .map(|verdict| Event { end, outcome: losing(lost_with(stretch), verdict) })
+}
+
+/// Document 02, Req 09: "the bytes between the two flags, 65,535 standing for that or more", as
+/// they were sent.
+fn lost_with(stretch: &[u8]) -> u16 {
+    u16::try_from(stretch.len()).unwrap_or(65_535)
 }
 
 /// "An empty stretch gives nothing." "every 7D is followed inside the stretch by 5E or 5D,
 /// else 2", then the checks of the unstuffed body.
-fn judge_stretch(stretch: &[u8]) -> Option<Outcome<Message>> {
+fn judge_stretch(stretch: &[u8]) -> Option<Verdict<Message>> {
     if stretch.is_empty() {
         return None;
     }
@@ -132,7 +141,7 @@ fn stands_for(mate: u8) -> Option<u8> {
 
 /// "the unstuffed body has 10 to 265 bytes, else 3; it begins FF 03, else 4; size equals
 /// its length less 10, else 5; the checksum agrees, else 6."
-fn judge_body(body: &[u8]) -> Outcome<Message> {
+fn judge_body(body: &[u8]) -> Verdict<Message> {
     if body.len() < SHORTEST_BODY || body.len() > LONGEST_BODY {
         return Err(number::WRONG_BODY_LENGTH);
     }
@@ -181,11 +190,13 @@ pub struct State {
     pub held: Vec<u8>,
     pub stage: u8,
     pub count: u16,
+    /// The bytes since the flag as they were sent, up to 65,535, which stands for that or more.
+    pub came: u16,
 }
 
 /// The paper does not say what a fresh state holds: read as zeros.
 pub fn fresh() -> State {
-    State { held: vec![0; LONGEST_BODY], stage: BEFORE_A_FLAG, count: 0 }
+    State { held: vec![0; LONGEST_BODY], stage: BEFORE_A_FLAG, count: 0, came: 0 }
 }
 
 /// A host that lends the held bytes may lend another number of them: the state is spoilt then,
@@ -194,10 +205,10 @@ fn in_range(state: &State) -> bool {
     state.held.len() == LONGEST_BODY && numbers_in_range(state)
 }
 
-/// The ranges: before a flag 0 held; in a stretch 0 to 266.
+/// The ranges: before a flag 0 held and none come; in a stretch 0 to 266 held, and any number come.
 fn numbers_in_range(state: &State) -> bool {
     match state.stage {
-        BEFORE_A_FLAG => state.count == 0,
+        BEFORE_A_FLAG => state.count == 0 && state.came == 0,
         IN_A_STRETCH | AFTER_ITS_ESCAPE | WITH_A_BROKEN_PAIR => state.count <= OVERFULL,
         _ => false,
     }
@@ -209,10 +220,14 @@ pub fn read(state: &mut State, piece: &[u8], lent: &mut [u8]) -> Reading<Message
 
 fn take(state: &mut State, byte: u8) -> Option<Outcome<Message>> {
     if byte == FLAG {
-        let outcome = judge_at_a_flag(state);
+        let outcome = judge_at_a_flag(state).map(|verdict| losing(state.came, verdict));
         state.stage = IN_A_STRETCH;
         state.count = 0;
+        state.came = 0;
         return outcome;
+    }
+    if state.stage != BEFORE_A_FLAG {
+        state.came = state.came.saturating_add(1);
     }
     match state.stage {
         IN_A_STRETCH => take_in_a_stretch(state, byte),
@@ -222,7 +237,7 @@ fn take(state: &mut State, byte: u8) -> Option<Outcome<Message>> {
     None
 }
 
-fn judge_at_a_flag(state: &State) -> Option<Outcome<Message>> {
+fn judge_at_a_flag(state: &State) -> Option<Verdict<Message>> {
     match state.stage {
         BEFORE_A_FLAG => None,
         IN_A_STRETCH if state.count == 0 => None,

@@ -444,7 +444,8 @@ fn known_listings(run: &Run, counts: &Counts) -> Result<(), String> {
                     |wrong| wrong,
                     |given| String::from_utf8_lossy(&given).into_owned(),
                 );
-                let (name, input) = (known.name, fields::hex(&known.input));
+                let shown = &known.input[..known.input.len().min(MOST_INPUT_SHOWN)];
+                let (name, input) = (known.name, fields::hex(shown));
                 return Err(format!(
                     "case {name}, generator \"listings of the paper\"\n  input: {input}\n  paper: {:?}\n  {side}: {given:?}",
                     known.output

@@ -1,7 +1,10 @@
-//! "Eversolar on the wire", with the order of the words that document 02, Req 03, corrects.
+//! "Eversolar on the wire", with the order of the words that document 02, Req 03, corrects, and
+//! the bytes lost of its Req 09.
 
 use crate::number;
-use crate::{hand_over, not_written, one_call, Event, Outcome, Payload, Reading, Written};
+use crate::{
+    hand_over, losing, not_written, one_call, Event, Outcome, Payload, Reading, Verdict, Written,
+};
 
 pub const HEADER: [u8; 2] = [0xAA, 0x55];
 pub const MOST_PAYLOAD: usize = 255;
@@ -72,7 +75,9 @@ pub fn events(stream: &[u8]) -> Vec<Event<Message>> {
     let mut events = Vec::new();
     let mut from = 0;
     while let Some((begin, end)) = next_frame(stream, from) {
-        events.push(Event { end, outcome: judge_frame(&stream[begin..end]) });
+        // Document 02, Req 09: "the whole frame".
+        let lost = (end - begin) as u16;
+        events.push(Event { end, outcome: losing(lost, judge_frame(&stream[begin..end])) });
         from = end;
     }
     events
@@ -92,7 +97,7 @@ fn position_of_header(stream: &[u8]) -> Option<usize> {
 }
 
 /// "at the last byte a wrong sum is 6".
-fn judge_frame(frame: &[u8]) -> Outcome<Message> {
+fn judge_frame(frame: &[u8]) -> Verdict<Message> {
     let (earlier, sum) = frame.split_at(frame.len() - 2);
     if high_byte_first(sum_of(earlier)) != sum {
         return Err(number::WRONG_SUM);
@@ -181,15 +186,17 @@ fn hold(state: &mut State, byte: u8) {
     state.count += 1;
 }
 
-/// The state's length says where the frame ends, and it is what the sum counts as the length byte.
-/// The length byte that is held differs from it in a forged state only, and counts nowhere.
+/// The state's length says where the frame ends, it is what the sum counts as the length byte, and
+/// it is the N of "11 plus N" (document 02, Req 09). The length byte that is held differs from it
+/// in a forged state only, and counts nowhere.
 fn take_the_last(state: &mut State, byte: u8) -> Outcome<Message> {
     let mut frame = HEADER.to_vec();
     frame.extend(&state.held[..usize::from(state.count)]);
     frame[8] = state.length as u8;
     frame.push(byte);
+    let lost = 11 + state.length;
     start_afresh(state);
-    judge_frame(&frame)
+    losing(lost, judge_frame(&frame))
 }
 
 fn start_afresh(state: &mut State) {

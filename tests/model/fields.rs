@@ -1,10 +1,11 @@
 //! Results of the programs `test_probe_..` in words, for the report of a disagreement.
 
 /// The fields of PORTS.
-const PORTS: [(&str, usize); 11] = [
+const PORTS: [(&str, usize); 12] = [
     ("ComLynx held", 265),
     ("ComLynx stage", 1),
     ("ComLynx count", 2),
+    ("ComLynx came", 2),
     ("Eversolar held", 263),
     ("Eversolar stage", 1),
     ("Eversolar count", 2),
@@ -23,7 +24,8 @@ fn fields_of(op: u8) -> Vec<(&'static str, usize)> {
     match op {
         0x86 => ports.to_vec(),
         0x87 => {
-            let told = [("used", 2), ("from", 0), ("to", 0), ("code", 0), ("length", 2)];
+            let told =
+                [("used", 2), ("lost", 2), ("from", 0), ("to", 0), ("code", 0), ("length", 2)];
             [&told, ports, &[("lent", 0)]].concat()
         }
         0x88 => [ports, &COUNTS].concat(),
@@ -39,6 +41,7 @@ fn other_fields_of(op: u8) -> &'static [(&'static str, usize)] {
     match op {
         0x01 => &[
             ("used", 2),
+            ("lost", 2),
             ("source", 2),
             ("destination", 2),
             ("type", 1),
@@ -46,10 +49,12 @@ fn other_fields_of(op: u8) -> &'static [(&'static str, usize)] {
             ("held", 265),
             ("stage", 1),
             ("count", 2),
+            ("came", 2),
             ("lent", 0),
         ],
         0x02 => &[
             ("used", 2),
+            ("lost", 2),
             ("source", 2),
             ("destination", 2),
             ("control", 1),
@@ -63,6 +68,7 @@ fn other_fields_of(op: u8) -> &'static [(&'static str, usize)] {
         ],
         0x03 => &[
             ("used", 2),
+            ("lost", 2),
             ("device", 1),
             ("number", 1),
             ("command", 1),
@@ -73,22 +79,25 @@ fn other_fields_of(op: u8) -> &'static [(&'static str, usize)] {
             ("state length", 2),
             ("lent", 0),
         ],
-        0x04 => &[("held", 265), ("stage", 1), ("count", 2)],
+        0x04 => &[("held", 265), ("stage", 1), ("count", 2), ("came", 2)],
         0x05 => &[("held", 263), ("stage", 1), ("count", 2), ("state length", 2)],
         0x06 => &[("held", 130), ("stage", 1), ("count", 2), ("state length", 2)],
         0x07 => &[
             ("used", 2),
+            ("lost", 2),
             ("source", 2),
             ("destination", 2),
             ("type", 1),
             ("length", 2),
             ("stage", 1),
             ("count", 2),
+            ("came", 2),
             ("held", 0),
             ("lent", 0),
         ],
         0x08 => &[
             ("used", 2),
+            ("lost", 2),
             ("source", 2),
             ("destination", 2),
             ("control", 1),
@@ -102,6 +111,7 @@ fn other_fields_of(op: u8) -> &'static [(&'static str, usize)] {
         ],
         0x09 => &[
             ("used", 2),
+            ("lost", 2),
             ("device", 1),
             ("number", 1),
             ("command", 1),

@@ -1,7 +1,9 @@
 //! "Fronius on the wire".
 
 use crate::number;
-use crate::{hand_over, not_written, one_call, Event, Outcome, Payload, Reading, Written};
+use crate::{
+    hand_over, losing, not_written, one_call, Event, Outcome, Payload, Reading, Verdict, Written,
+};
 
 pub const START: u8 = 0x80;
 pub const MOST_PAYLOAD: usize = 127;
@@ -60,17 +62,20 @@ pub fn events(stream: &[u8]) -> Vec<Event<Message>> {
     events
 }
 
-/// A start, its length, and the whole frame; nothing where it is not all there yet.
+/// A start, its length, and the whole frame; nothing where it is not all there yet. Lost are the
+/// last three 80 of the start and all from the length on (document 02, Req 09).
 fn next_event(stream: &[u8], from: usize) -> Option<Event<Message>> {
     let position = position_of_length(stream, from)?;
     let length = stream[position];
     // "81 to FF is 7".
     if length > START {
-        return Some(Event { end: position + 1, outcome: Err(number::WRONG_LENGTH_BYTE) });
+        let outcome = losing(3 + 1, Err(number::WRONG_LENGTH_BYTE));
+        return Some(Event { end: position + 1, outcome });
     }
     let end = position + 1 + 3 + usize::from(length) + 1;
     let frame = stream.get(position..end)?;
-    Some(Event { end, outcome: judge_frame(frame) })
+    let lost = 3 + frame.len() as u16;
+    Some(Event { end, outcome: losing(lost, judge_frame(frame)) })
 }
 
 /// "after three successive 80 comes the length. A further 80 there is taken as part of the
@@ -81,7 +86,7 @@ fn position_of_length(stream: &[u8], from: usize) -> Option<usize> {
 }
 
 /// "A wrong sum is 6." `frame` is the length byte and all after it.
-fn judge_frame(frame: &[u8]) -> Outcome<Message> {
+fn judge_frame(frame: &[u8]) -> Verdict<Message> {
     let (summed, sum) = frame.split_at(frame.len() - 1);
     if sum[0] != sum_of(summed) {
         return Err(number::WRONG_SUM);
@@ -146,6 +151,10 @@ fn take(state: &mut State, byte: u8) -> Option<Outcome<Message>> {
     None
 }
 
+/// Document 02, Req 09: "8 plus N for a wrong sum, 4 for a wrong length", however many 80 came.
+const LOST_WITH_A_7: u16 = 4;
+const LOST_WITH_A_6_OF_NO_PAYLOAD: u16 = 8;
+
 fn take_at_the_start(state: &mut State, byte: u8) -> Option<Outcome<Message>> {
     if byte == START {
         state.count = 3.min(state.count + 1);
@@ -153,7 +162,7 @@ fn take_at_the_start(state: &mut State, byte: u8) -> Option<Outcome<Message>> {
         state.count = 0;
     } else if byte > START {
         count_afresh(state);
-        return Some(Err(number::WRONG_LENGTH_BYTE));
+        return Some(losing(LOST_WITH_A_7, Err(number::WRONG_LENGTH_BYTE)));
     } else {
         begin_the_body(state, byte);
     }
@@ -170,8 +179,9 @@ fn take_the_last(state: &mut State, byte: u8) -> Outcome<Message> {
     let mut frame = vec![state.length as u8];
     frame.extend(&state.held[..usize::from(state.count)]);
     frame.push(byte);
+    let lost = LOST_WITH_A_6_OF_NO_PAYLOAD + state.length;
     count_afresh(state);
-    judge_frame(&frame)
+    losing(lost, judge_frame(&frame))
 }
 
 fn count_afresh(state: &mut State) {

@@ -59,9 +59,10 @@ fn field(bytes: &[u8]) -> String {
     bytes.iter().map(|byte| format!("{byte:02X}")).collect()
 }
 
-/// "A damage line is port and number."
-pub fn damage(port: u8, number: u8) -> String {
-    format!("{port} {number}\n")
+/// "A damage line is port and number", and document 02, Req 09: "the listing prints it as a third
+/// field on damage lines", the bytes lost.
+pub fn damage(port: u8, number: u8, lost: u16) -> String {
+    format!("{port} {number} {lost}\n")
 }
 
 /// "prints `stop` and its number".

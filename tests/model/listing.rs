@@ -111,6 +111,9 @@ fn line_of<M>(port: u8, end: usize, outcome: Outcome<M>, fields: fn(&M) -> Field
         Ok(message) => {
             Line { end, is_message: true, text: lines::message(port, &fields(&message)) }
         }
-        Err(damage) => Line { end, is_message: false, text: lines::damage(port, damage) },
+        Err(damage) => {
+            let text = lines::damage(port, damage.number, damage.lost);
+            Line { end, is_message: false, text }
+        }
     }
 }

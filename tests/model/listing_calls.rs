@@ -18,8 +18,8 @@ fn header_line() -> Making {
     op(0x81)
 }
 
-fn damage_line(port: u8, number: u8) -> Making {
-    op(0x83).b(port).b(number)
+fn damage_line(port: u8, number: u8, lost: u16) -> Making {
+    op(0x83).b(port).b(number).w(lost)
 }
 
 fn stop_line(number: u8) -> Making {
@@ -69,12 +69,17 @@ fn counts_of_digits() -> Vec<u64> {
 }
 
 const BYTES_OF_DIGITS: [u8; 11] = [0, 1, 2, 9, 10, 11, 99, 100, 101, 200, 255];
+const WORDS_OF_DIGITS: [u16; 19] = [
+    0, 1, 4, 9, 10, 11, 99, 100, 255, 256, 999, 1000, 1001, 9999, 10_000, 32_767, 32_768, 65_534,
+    65_535,
+];
 
 pub fn line_sweep(random: &mut Random, calls: &mut Vec<Call>) {
     for line in [
         header_line(),
-        damage_line(1, 2),
-        damage_line(255, 255),
+        damage_line(1, 2, 0),
+        damage_line(3, 7, 4),
+        damage_line(255, 255, 65_535),
         stop_line(9),
         stop_line(13),
         end_line(0, 0),
@@ -87,17 +92,26 @@ pub fn line_sweep(random: &mut Random, calls: &mut Vec<Call>) {
     message_lines(random, calls);
 }
 
+fn rooms_about_the_exact(line: Making, random: &mut Random, calls: &mut Vec<Call>) {
+    let exact = exact_length(&line);
+    for room in [exact - 1, exact, exact + 1] {
+        calls.push(line.again().list(&random.bytes(room)).from(LINES));
+    }
+}
+
 fn line_digits(random: &mut Random, calls: &mut Vec<Call>) {
     for byte in 0..=255 {
         let other = random.pick(&BYTES_OF_DIGITS);
-        for line in [stop_line(byte), damage_line(byte, other), damage_line(other, byte)] {
-            let exact = exact_length(&line);
-            for room in [exact - 1, exact, exact + 1] {
-                calls.push(line.again().list(&random.bytes(room)).from(LINES));
-            }
+        let lost = random.pick(&WORDS_OF_DIGITS);
+        let damages = [damage_line(byte, other, lost), damage_line(other, byte, lost)];
+        for line in [stop_line(byte)].into_iter().chain(damages) {
+            rooms_about_the_exact(line, random, calls);
         }
         let (line, exact) = message_line(usize::from(byte) % FIXED.len(), byte, 1, random);
         calls.push(line.list(&random.bytes(exact)).from(MESSAGE_LINES));
+    }
+    for lost in WORDS_OF_DIGITS {
+        rooms_about_the_exact(damage_line(random.between(1, 3) as u8, 6, lost), random, calls);
     }
     let counts = counts_of_digits();
     for &count in &counts {
@@ -132,7 +146,8 @@ fn message_lines(random: &mut Random, calls: &mut Vec<Call>) {
 pub fn random_line(random: &mut Random) -> Call {
     let (line, exact) = match random.below(5) {
         0 => {
-            let line = damage_line(random.byte(), random.byte());
+            let lost = random.word() >> random.below(16);
+            let line = damage_line(random.byte(), random.byte(), lost);
             let exact = exact_length(&line);
             (line, exact)
         }
@@ -176,7 +191,7 @@ const PORTS_LENT: &str = "all ports, every lent length";
 const PORTS_FORGED: &str = "all ports, forged states";
 const PORTS_CHAIN: &str = "all ports, streams in pieces";
 /// The bytes of PORTS: the three states.
-const PORTS_BYTES: usize = 268 + 268 + 135;
+const PORTS_BYTES: usize = 270 + 268 + 135;
 
 /// The states of the three readers, as bytes.
 type States = [Vec<u8>; 3];
@@ -189,8 +204,16 @@ fn fresh_states() -> States {
 pub fn spoilt_state(family: Family, random: &mut Random) -> Vec<u8> {
     let shape = shape(family);
     let held = random.content(shape.held);
-    let (stage, count) = random.pick(&[(0, 4), (4, 0), (255, 0), (1, 267), (2, 65_535)]);
-    state_of(shape, &held, stage, count, 0)
+    let (stage, count, last) = random.pick(&[
+        (0, 4, 0),
+        (0, 0, 1),
+        (0, 0, 65_535),
+        (4, 0, 0),
+        (255, 0, 0),
+        (1, 267, 0),
+        (2, 65_535, 0),
+    ]);
+    state_of(&held, stage, count, last)
 }
 
 /// A state that reading has left, or a fresh one.
@@ -199,7 +222,7 @@ fn good_state(family: Family, random: &mut Random) -> Vec<u8> {
     if random.one_in(3) {
         return fresh_state(shape);
     }
-    let begin = state_of(shape, &random.specials(shape.held), 0, 0, 0);
+    let begin = state_of(&random.specials(shape.held), 0, 0, 0);
     let frame = streams::frame(family, random);
     let cut = random.between(0, frame.len() - 1);
     let call = op(shape.op).raw(&begin).list(&frame[..cut]).list(&[0; 255]).bytes;
@@ -228,7 +251,7 @@ fn after_a_port(call: &[u8], lent: usize) -> (u8, usize, States) {
 }
 
 fn cut_into_states(ports: &[u8]) -> States {
-    [ports[..268].to_vec(), ports[268..536].to_vec(), ports[536..PORTS_BYTES].to_vec()]
+    [ports[..270].to_vec(), ports[270..538].to_vec(), ports[538..PORTS_BYTES].to_vec()]
 }
 
 /// A reader's call made through its port, beside other states.

@@ -70,8 +70,22 @@ pub mod number {
     pub const TOO_MANY_PACKETS: u8 = 19;
 }
 
-/// What a stretch, a frame or a byte settles: a message, or the number of a damage.
-pub type Outcome<M> = Result<M, u8>;
+/// What the checks of a stretch or a frame say: a message, or the number of a damage.
+pub type Verdict<M> = Result<M, u8>;
+
+/// Document 02, Req 09: "Every damage answer now carries a byte number."
+pub struct Damage {
+    pub number: u8,
+    pub lost: u16,
+}
+
+/// What a stretch, a frame or a byte settles: a message, or a damage.
+pub type Outcome<M> = Result<M, Damage>;
+
+/// A damage loses so many bytes; a message loses none.
+pub fn losing<M>(lost: u16, verdict: Verdict<M>) -> Outcome<M> {
+    verdict.map_err(|number| Damage { number, lost })
+}
 
 /// An outcome in a whole stream, and how many of the stream's bytes it took to settle it.
 pub struct Event<M> {
@@ -83,6 +97,8 @@ pub struct Event<M> {
 pub struct Reading<M> {
     pub number: u8,
     pub used: usize,
+    /// The bytes lost with a damage; 0 with any other answer.
+    pub lost: u16,
     pub message: Option<M>,
 }
 
@@ -114,7 +130,7 @@ pub fn one_call<M: Payload>(
     mut take: impl FnMut(u8) -> Option<Outcome<M>>,
 ) -> Reading<M> {
     if let Some(refusal) = refusal_before_the_piece(state_in_range, lent) {
-        return Reading { number: refusal, used: 0, message: None };
+        return Reading { number: refusal, used: 0, lost: 0, message: None };
     }
     for (position, &byte) in piece.iter().enumerate() {
         if let Some(outcome) = take(byte) {
@@ -122,7 +138,7 @@ pub fn one_call<M: Payload>(
         }
     }
     // "done; for a reader, piece used up": "all bytes used, lent buffer unchanged".
-    Reading { number: number::DONE, used: piece.len(), message: None }
+    Reading { number: number::DONE, used: piece.len(), lost: 0, message: None }
 }
 
 /// 1: "bytes used up to its last; data at the front of the lent buffer, rest unchanged".
@@ -131,9 +147,9 @@ fn settled<M: Payload>(used: usize, outcome: Outcome<M>, lent: &mut [u8]) -> Rea
     match outcome {
         Ok(message) => {
             put_in_front(message.payload(), lent);
-            Reading { number: number::MESSAGE, used, message: Some(message) }
+            Reading { number: number::MESSAGE, used, lost: 0, message: Some(message) }
         }
-        Err(damage) => Reading { number: damage, used, message: None },
+        Err(damage) => Reading { number: damage.number, used, lost: damage.lost, message: None },
     }
 }
 

@@ -23,11 +23,11 @@ pub fn read(ports: &mut Ports, port: u8, piece: &[u8], lent: &mut [u8]) -> Readi
         1 => as_fields(comlynx::read(&mut ports.comlynx, piece, lent), lines::of_comlynx),
         2 => as_fields(eversolar::read(&mut ports.eversolar, piece, lent), lines::of_eversolar),
         3 => as_fields(fronius::read(&mut ports.fronius, piece, lent), lines::of_fronius),
-        _ => Reading { number: number::WRONG_PORT_OR_COUNT, used: 0, message: None },
+        _ => Reading { number: number::WRONG_PORT_OR_COUNT, used: 0, lost: 0, message: None },
     }
 }
 
 fn as_fields<M>(reading: Reading<M>, fields: fn(&M) -> Fields) -> Reading<Fields> {
-    let Reading { number, used, message } = reading;
-    Reading { number, used, message: message.as_ref().map(fields) }
+    let Reading { number, used, lost, message } = reading;
+    Reading { number, used, lost, message: message.as_ref().map(fields) }
 }

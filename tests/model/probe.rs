@@ -181,7 +181,8 @@ fn next_result(calls: &mut Arguments) -> Option<Vec<u8>> {
 
 fn comlynx_state(calls: &mut Arguments) -> Option<comlynx::State> {
     let held = calls.bytes(comlynx::LONGEST_BODY)?.to_vec();
-    Some(comlynx::State { held, stage: calls.byte()?, count: calls.word()? })
+    let (stage, count, came) = (calls.byte()?, calls.word()?, calls.word()?);
+    Some(comlynx::State { held, stage, count, came })
 }
 
 fn read_comlynx(calls: &mut Arguments) -> Option<Answer> {
@@ -190,9 +191,9 @@ fn read_comlynx(calls: &mut Arguments) -> Option<Answer> {
 }
 
 fn read_comlynx_in_place(calls: &mut Arguments) -> Option<Answer> {
-    let (stage, count) = (calls.byte()?, calls.word()?);
+    let (stage, count, came) = (calls.byte()?, calls.word()?, calls.word()?);
     let held = calls.held()?;
-    comlynx_call(calls, comlynx::State { held, stage, count }, put_comlynx_in_place)
+    comlynx_call(calls, comlynx::State { held, stage, count, came }, put_comlynx_in_place)
 }
 
 /// The call on a state, wherever its held bytes are kept; the two ways hand it back differently.
@@ -203,7 +204,7 @@ fn comlynx_call(
 ) -> Option<Answer> {
     let (piece, mut lent) = (calls.list()?, calls.lent()?);
     let reading = comlynx::read(&mut state, piece, &mut lent);
-    let answer = Answer::of(reading.number).word(reading.used as u16);
+    let answer = Answer::of(reading.number).word(reading.used as u16).word(reading.lost);
     let answer = match reading.message {
         Some(message) => answer
             .word(message.source)
@@ -216,12 +217,12 @@ fn comlynx_call(
 }
 
 fn put_comlynx_state(answer: Answer, state: &comlynx::State) -> Answer {
-    answer.bytes(&state.held).byte(state.stage).word(state.count)
+    answer.bytes(&state.held).byte(state.stage).word(state.count).word(state.came)
 }
 
-/// "stage:B, count:W, HELD instead of STATE".
+/// "stage:B, count:W, came:W, HELD instead of STATE".
 fn put_comlynx_in_place(answer: Answer, state: &comlynx::State) -> Answer {
-    answer.byte(state.stage).word(state.count).list(&state.held)
+    answer.byte(state.stage).word(state.count).word(state.came).list(&state.held)
 }
 
 fn eversolar_state(calls: &mut Arguments) -> Option<eversolar::State> {
@@ -248,7 +249,7 @@ fn eversolar_call(
 ) -> Option<Answer> {
     let (piece, mut lent) = (calls.list()?, calls.lent()?);
     let reading = eversolar::read(&mut state, piece, &mut lent);
-    let answer = Answer::of(reading.number).word(reading.used as u16);
+    let answer = Answer::of(reading.number).word(reading.used as u16).word(reading.lost);
     let answer = match reading.message {
         Some(message) => answer
             .bytes(&message.source)
@@ -293,7 +294,7 @@ fn fronius_call(
 ) -> Option<Answer> {
     let (piece, mut lent) = (calls.list()?, calls.lent()?);
     let reading = fronius::read(&mut state, piece, &mut lent);
-    let answer = Answer::of(reading.number).word(reading.used as u16);
+    let answer = Answer::of(reading.number).word(reading.used as u16).word(reading.lost);
     let answer = match reading.message {
         Some(message) => answer
             .byte(message.device)
@@ -574,8 +575,8 @@ fn put_message_line(port: u8, fields: &Fields, mut lent: Vec<u8>) -> Answer {
 }
 
 fn damage_line(calls: &mut Arguments) -> Option<Answer> {
-    let (port, damage) = (calls.byte()?, calls.byte()?);
-    Some(put_line(&lines::damage(port, damage), calls.lent()?))
+    let (port, damage, lost) = (calls.byte()?, calls.byte()?, calls.word()?);
+    Some(put_line(&lines::damage(port, damage, lost), calls.lent()?))
 }
 
 fn stop_line(calls: &mut Arguments) -> Option<Answer> {
@@ -609,7 +610,7 @@ fn read_a_port(calls: &mut Arguments) -> Option<Answer> {
     let (mut ports, port) = (ports_of(calls)?, calls.byte()?);
     let (piece, mut lent) = (calls.list()?, calls.lent()?);
     let reading = ports::read(&mut ports, port, piece, &mut lent);
-    let answer = Answer::of(reading.number).word(reading.used as u16);
+    let answer = Answer::of(reading.number).word(reading.used as u16).word(reading.lost);
     let answer = match reading.message {
         Some(fields) => answer
             .list(&fields.from)

@@ -142,9 +142,14 @@ fn overlapping(family: Family, random: &mut Random) -> Vec<u8> {
     first
 }
 
-fn shaped(family: Family, random: &mut Random) -> Vec<u8> {
+/// What tells near a limit of the family, damages mostly.
+pub fn shaped(family: Family, random: &mut Random) -> Vec<u8> {
     match family {
-        Family::ComLynx => shaped_stretch(random),
+        Family::ComLynx => match random.below(4) {
+            0 => stretch_of_pairs(random),
+            1 => long_broken_stretch(random),
+            _ => shaped_stretch(random),
+        },
         Family::Eversolar => shaped_eversolar(random),
         Family::Fronius => shaped_fronius(random),
     }
@@ -195,6 +200,57 @@ fn shaped_body(random: &mut Random, length: usize) -> Vec<u8> {
         body.swap(length - 2, length - 1);
     }
     body
+}
+
+/// Pairs and little else, so that a stretch has up to twice as many bytes as its body.
+fn stretch_of_pairs(random: &mut Random) -> Vec<u8> {
+    let pairs = random.pick(&[1, 4, 5, 9, 10, 132, 133, 264, 265, 266, 300]);
+    let begin = random.pick(&[&[][..], &[0xFF, 0x03], &[0x00]]);
+    [&[comlynx::FLAG], begin, &pair(random).repeat(pairs), &[comlynx::FLAG]].concat()
+}
+
+/// A pair as the writer makes them.
+pub fn pair(random: &mut Random) -> [u8; 2] {
+    [comlynx::ESCAPE, random.pick(&[comlynx::FLAG_STUFFED, comlynx::ESCAPE_STUFFED])]
+}
+
+/// A broken pair early in a stretch, and many bytes after it, pairs and broken pairs among them.
+fn long_broken_stretch(random: &mut Random) -> Vec<u8> {
+    let (before, after) = (random.pick(&[0, 0, 1, 8, 270]), random.pick(&[0, 1, 2, 30, 255, 600]));
+    let broken = [comlynx::ESCAPE, random.pick(&[0x00, comlynx::ESCAPE, 0x7F, 0xFF])];
+    let [before, after] = [before, after].map(|count| without_flags(random, count));
+    [&[comlynx::FLAG], &before[..], &broken, &after, &[comlynx::FLAG]].concat()
+}
+
+/// So many bytes that may stand inside one stretch.
+pub fn without_flags(random: &mut Random, count: usize) -> Vec<u8> {
+    let mut bytes = random.content(count);
+    let instead = random.pick(&[0x00, comlynx::ESCAPE, comlynx::FLAG_STUFFED]);
+    for byte in &mut bytes {
+        if *byte == comlynx::FLAG {
+            *byte = instead;
+        }
+    }
+    bytes
+}
+
+/// Stretches about as long as the number of lost bytes can tell, and longer, then a frame.
+pub fn longest_stretches(random: &mut Random) -> Vec<u8> {
+    let mut stream = vec![comlynx::FLAG];
+    for _ in 0..3 {
+        let count =
+            random.pick(&[65_533, 65_534, 65_535, 65_536, 65_537, 70_000, 131_072, 131_080]);
+        let mut stretch = match random.below(3) {
+            0 => pair(random).repeat(count / 2 + 1),
+            1 => vec![random.pick(&[0x00, 0x5E, comlynx::ESCAPE]); count],
+            _ => without_flags(random, count),
+        };
+        stretch.truncate(count);
+        stream.extend(stretch);
+        stream.push(comlynx::FLAG);
+    }
+    stream.extend(frame(Family::ComLynx, random));
+    stream
 }
 
 /// A stretch whose body has `length` bytes, wrong where a bit of `wrong` says so: a broken pair,
@@ -265,10 +321,14 @@ fn shaped_fronius(random: &mut Random) -> Vec<u8> {
         0 => frame[last] = frame[last].wrapping_add(0x80),
         1 => frame[last] = frame[last].wrapping_sub(length),
         2 => frame[last] = frame[last].wrapping_add(random.pick(&[1, 255])),
-        3 => frame[3] = random.pick(&[0x7F, 0x80, 0x81, 0x81, 0x82, 0xFE, 0xFF]),
+        3 | 6 => frame[3] = random.pick(&[0x7F, 0x80, 0x81, 0x81, 0x82, 0xFE, 0xFF]),
         4 => drop(frame.remove(0)),
         5 => frame[random.below(3)] = random.special(),
-        _ => return [vec![0x80; random.between(1, 4)], frame].concat(),
+        _ => {}
+    }
+    if random.one_in(3) {
+        let further = random.pick(&[1, 2, 3, 4, 5, 40]);
+        return [vec![fronius::START; further], frame].concat();
     }
     frame
 }

@@ -4,14 +4,22 @@
 
 use crate::random::Random;
 use crate::streams::{self, Family};
-use right::{by_packet, comlynx, eversolar, fronius, lines, listing, number, Event, Reading};
+use right::{
+    by_packet, comlynx, eversolar, fronius, lines, listing, number, packet, Event, Reading,
+};
+
+/// One stream in so many has stretches of more bytes than a damage can tell.
+const LONG_IN: usize = 60;
 
 /// What was told, and after how many bytes of the stream.
 type Told = (usize, String);
 
 pub fn disagree(family: Family, random: &mut Random) -> Option<String> {
     let least = random.pick(&[10, 100, 1000]);
-    let stream = streams::stream(family, random, least);
+    let stream = match family {
+        Family::ComLynx if random.one_in(LONG_IN) => streams::longest_stretches(random),
+        _ => streams::stream(family, random, least),
+    };
     let longest_piece = random.pick(&[1, 3, 50, 500]);
     let (whole, in_pieces) = match family {
         Family::ComLynx => {
@@ -56,10 +64,14 @@ fn of_fronius(message: &fronius::Message) -> String {
     format!("{} {} {} {:?}", message.device, message.number, message.command, message.payload)
 }
 
+fn damage_in_words(number: u8, lost: u16) -> String {
+    format!("damage {number}, {lost} lost")
+}
+
 fn told<M>(events: Vec<Event<M>>, words: fn(&M) -> String) -> Vec<Told> {
     let in_words = |event: Event<M>| match event.outcome {
         Ok(message) => (event.end, words(&message)),
-        Err(damage) => (event.end, format!("damage {damage}")),
+        Err(damage) => (event.end, damage_in_words(damage.number, damage.lost)),
     };
     events.into_iter().map(in_words).collect()
 }
@@ -82,18 +94,25 @@ fn pieces<M>(
         match (reading.number, reading.message) {
             (number::DONE, _) => {}
             (_, Some(message)) => told.push((position, words(&message))),
-            (damage, None) => told.push((position, format!("damage {damage}"))),
+            (damage, None) => told.push((position, damage_in_words(damage, reading.lost))),
         }
     }
     told
 }
 
 pub fn listings_disagree(random: &mut Random) -> Option<String> {
-    let input = streams::listing_input(random);
+    let input = match random.one_in(LONG_IN) {
+        true => in_packets(1, &streams::longest_stretches(random)),
+        false => streams::listing_input(random),
+    };
     let whole = listing::listing(&input);
     let by_packet = listed_by_packet(&input, random);
     let (whole, by_packet) = (String::from_utf8_lossy(&whole), String::from_utf8_lossy(&by_packet));
     (whole != by_packet).then(|| format!("whole: {whole:?}\n  by packet: {by_packet:?}"))
+}
+
+fn in_packets(port: u8, stream: &[u8]) -> Vec<u8> {
+    stream.chunks(240).flat_map(|piece| packet::packet(port, piece)).collect()
 }
 
 /// More and more of the input at hand, until the listing ends.
