@@ -184,5 +184,7 @@ def alike():
             yield "giving", f"roster {what}, serial {serial.hex()}", giving_input(3, text, serial), False
     for every in (20, 60, 200):
         yield "listing", f"listing, one byte in {every} changed", frames.day(300, every), True
+    for length in (65534, 65535, 65536):
+        yield "listing", f"listing, {length} bytes between two flags", frames.cut(1, b"~" + bytes(length) + b"~"), False
     for what, text in frames.refused():
         yield "listing", f"listing, {what}", text, False

@@ -73,7 +73,7 @@ def stream(family, count, most):
         data = rng.randbytes(count)
         wire, code = frame(rng, data)
         if len(out) + len(wire) > most:
-            return bytes(out), messages, f"{number} {messages} 0 {check}\n"
+            return bytes(out), messages, f"{number} {messages} 0 0 {check}\n"
         out += wire
         messages += 1
         check = (check * 3 + code + sum(data)) % 2**64
@@ -112,6 +112,11 @@ def mixed(rng, family, size):
 
 def packet(port, line):
     return b"SBR\0\1" + bytes([port, len(line)]) + line
+
+
+def cut(port, line):
+    """Bytes of a port in full packets."""
+    return b"".join(packet(port, line[at:at + LINE]) for at in range(0, len(line), LINE))
 
 
 def day(packets, every=0, ports=PORTS):

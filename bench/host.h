@@ -29,6 +29,8 @@ enum {
     TOO_MANY_PACKETS = 19
 };
 
+enum { LOST_MAX = 65535 }; /* the number of lost bytes that stands for itself or more */
+
 long read(int file, void *to, size most);
 long write(int file, const void *from, size count);
 void *memcpy(void *to, const void *from, size count);

@@ -99,13 +99,14 @@ static void message(struct listing *l, char port, const u8 *from, size from_len,
     l->messages++;
 }
 
-static void damage(struct listing *l, char port, int number)
+static void damage(struct listing *l, char port, int number, size lost)
 {
     u8 *p = line_at(l);
     *p++ = (u8)port;
     *p++ = ' ';
     *p++ = (u8)('0' + number);
-    line_ends(l, p);
+    *p++ = ' ';
+    line_ends(l, put_decimal(p, lost < LOST_MAX ? lost : LOST_MAX));
     l->damages++;
 }
 
@@ -118,6 +119,7 @@ enum { FLAG = 0x7e, ESCAPE = 0x7d, FLAG_PAIR = 0x5e, ESCAPE_PAIR = 0x5d };
 struct comlynx {
     u8 held[CL_BODY]; /* the unstuffed bytes of the stretch */
     u8 stage;
+    size came;  /* how many bytes have come since the flag, as they were sent */
     size count; /* how many are held; CL_TOO_MANY where there were more than fit */
 };
 
@@ -152,9 +154,10 @@ static void comlynx_close(struct comlynx *r, struct listing *l)
     const u8 *s = r->held;
     int wrong = comlynx_judge(r);
     if (wrong)
-        damage(l, '1', wrong);
+        damage(l, '1', wrong, r->came);
     else
         message(l, '1', s + 2, 2, s + 4, s + 7, 1, s + CL_HEADER, s[6]);
+    r->came = 0;
     r->count = 0;
 }
 
@@ -173,23 +176,29 @@ static void comlynx_take(struct comlynx *r, const u8 *piece, size n, struct list
                     comlynx_close(r, l);
             } else if (b == ESCAPE) {
                 r->stage = CL_ESCAPED;
+                r->came++;
             } else {
                 comlynx_keep(r, b);
+                r->came++;
             }
             break;
         case CL_ESCAPED:
             if (b == FLAG_PAIR || b == ESCAPE_PAIR) {
                 r->stage = CL_INSIDE;
                 comlynx_keep(r, b ^ 0x20);
+                r->came++;
                 break;
             }
             r->stage = CL_BROKEN;
             /* fall through: the byte may be the flag */
         default:
             if (b == FLAG) {
+                damage(l, '1', BROKEN_PAIR, r->came);
                 r->stage = CL_INSIDE;
+                r->came = 0;
                 r->count = 0;
-                damage(l, '1', BROKEN_PAIR);
+            } else {
+                r->came++;
             }
         }
     }
@@ -215,7 +224,7 @@ static void eversolar_close(struct eversolar *r, struct listing *l)
     for (size i = 0; i < n; i++)
         sum += s[i];
     if ((sum & 0xffff) != (u32)(s[n] << 8 | s[n + 1]))
-        damage(l, '2', WRONG_SUM);
+        damage(l, '2', WRONG_SUM, 2 + r->whole);
     else
         message(l, '2', s, 2, s + 2, s + 4, 2, s + ES_HEADER, n - ES_HEADER);
 }
@@ -270,7 +279,7 @@ static void fronius_close(struct fronius *r, struct listing *l)
     for (size i = 0; i < n; i++)
         sum = (u8)(sum + s[i]);
     if (sum != s[n])
-        damage(l, '3', WRONG_SUM);
+        damage(l, '3', WRONG_SUM, 4 + r->whole);
     else
         message(l, '3', s, 0, s, s + 2, 1, s + FR_HEADER, n - FR_HEADER);
 }
@@ -292,7 +301,7 @@ static void fronius_take(struct fronius *r, const u8 *piece, size n, struct list
                 r->whole = (size)(FR_HEADER + b + 1);
             } else if (b > 0x80) {
                 r->count = 0;
-                damage(l, '3', WRONG_LENGTH_BYTE);
+                damage(l, '3', WRONG_LENGTH_BYTE, 4);
             }
             break;
         default:

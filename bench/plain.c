@@ -14,6 +14,7 @@ enum { FLAG = 0x7e, ESCAPE = 0x7d, FLAG_PAIR = 0x5e, ESCAPE_PAIR = 0x5d };
 struct comlynx {
     u8 held[CL_BODY]; /* the unstuffed bytes of the stretch */
     u8 stage;
+    size came;  /* how many bytes have come since the flag, as they were sent */
     size count; /* how many are held; CL_TOO_MANY where there were more than fit */
 };
 
@@ -54,10 +55,17 @@ static int comlynx_judge(const struct comlynx *r, u8 *lent, struct comlynx_heade
     return MESSAGE;
 }
 
-static int comlynx_step(struct comlynx *r, const u8 *piece, size n, u8 *lent, size room, struct comlynx_header *h, size *used)
+/* what is told of so many lost bytes */
+static u16 comlynx_lost(size came)
+{
+    return (u16)(came < LOST_MAX ? came : LOST_MAX);
+}
+
+/* each reader tells with a damage how many bytes were lost */
+static int comlynx_step(struct comlynx *r, const u8 *piece, size n, u8 *lent, size room, struct comlynx_header *h, size *used, u16 *lost)
 {
     *used = 0;
-    if (r->stage == CL_BEFORE ? r->count != 0 : CL_BROKEN < r->stage || CL_TOO_MANY < r->count)
+    if (r->stage == CL_BEFORE ? r->came != 0 || r->count != 0 : CL_BROKEN < r->stage || CL_TOO_MANY < r->count)
         return SPOILT;
     if (room < LENT)
         return NO_ROOM;
@@ -74,6 +82,8 @@ static int comlynx_step(struct comlynx *r, const u8 *piece, size n, u8 *lent, si
                 if (r->count == 0)
                     break;
                 answer = comlynx_judge(r, lent, h);
+                *lost = comlynx_lost(r->came);
+                r->came = 0;
                 r->count = 0;
                 *used = i + 1;
                 return answer;
@@ -82,22 +92,27 @@ static int comlynx_step(struct comlynx *r, const u8 *piece, size n, u8 *lent, si
                 r->stage = CL_ESCAPED;
             else
                 comlynx_keep(r, b);
+            r->came++;
             break;
         case CL_ESCAPED:
             if (b == FLAG_PAIR || b == ESCAPE_PAIR) {
                 r->stage = CL_INSIDE;
                 comlynx_keep(r, b ^ 0x20);
+                r->came++;
                 break;
             }
             r->stage = CL_BROKEN;
             /* fall through: the byte may be the flag */
         default:
             if (b == FLAG) {
+                *lost = comlynx_lost(r->came);
                 r->stage = CL_INSIDE;
+                r->came = 0;
                 r->count = 0;
                 *used = i + 1;
                 return BROKEN_PAIR;
             }
+            r->came++;
         }
     }
     *used = n;
@@ -156,7 +171,7 @@ static int eversolar_judge(const struct eversolar *r, u8 last, u8 *lent, struct 
     return MESSAGE;
 }
 
-static int eversolar_step(struct eversolar *r, const u8 *piece, size n, u8 *lent, size room, struct eversolar_header *h, size *used)
+static int eversolar_step(struct eversolar *r, const u8 *piece, size n, u8 *lent, size room, struct eversolar_header *h, size *used, u16 *lost)
 {
     *used = 0;
     if (!eversolar_in_range(r))
@@ -190,6 +205,7 @@ static int eversolar_step(struct eversolar *r, const u8 *piece, size n, u8 *lent
                 break;
             }
             answer = eversolar_judge(r, b, lent, h);
+            *lost = (u16)(11 + r->len);
             r->stage = ES_LOOKING;
             r->count = 0;
             r->len = 0;
@@ -247,7 +263,7 @@ static int fronius_judge(const struct fronius *r, u8 last, u8 *lent, struct fron
     return MESSAGE;
 }
 
-static int fronius_step(struct fronius *r, const u8 *piece, size n, u8 *lent, size room, struct fronius_header *h, size *used)
+static int fronius_step(struct fronius *r, const u8 *piece, size n, u8 *lent, size room, struct fronius_header *h, size *used, u16 *lost)
 {
     *used = 0;
     if (!fronius_in_range(r))
@@ -271,6 +287,7 @@ static int fronius_step(struct fronius *r, const u8 *piece, size n, u8 *lent, si
             } else if (b > 0x80) {
                 r->count = 0;
                 *used = i + 1;
+                *lost = 4;
                 return WRONG_LENGTH_BYTE;
             }
             break;
@@ -280,6 +297,7 @@ static int fronius_step(struct fronius *r, const u8 *piece, size n, u8 *lent, si
                 break;
             }
             answer = fronius_judge(r, b, lent, h);
+            *lost = (u16)(8 + r->len);
             r->stage = FR_START;
             r->count = 0;
             r->len = 0;
@@ -294,7 +312,7 @@ static int fronius_step(struct fronius *r, const u8 *piece, size n, u8 *lent, si
 /* ---- the host: as `pace_reading` */
 
 struct tally {
-    size messages, damages, check;
+    size messages, damages, lost, check;
 };
 
 static size piece_end(size at, size end, size piece, size len)
@@ -317,13 +335,14 @@ static size checked(size check, u8 code, const u8 *payload, size n)
     static struct tally of_##family(const u8 *input, size len, size piece, u8 *lent)                       \
     {                                                                                                      \
         struct family r = {0};                                                                             \
-        struct tally t = {0, 0, 0};                                                                        \
+        struct tally t = {0, 0, 0, 0};                                                                     \
         size at = 0, end = 0;                                                                              \
         while (at < len) {                                                                                 \
             struct family##_header h;                                                                      \
             size used;                                                                                     \
+            u16 lost;                                                                                      \
             end = piece_end(at, end, piece, len);                                                          \
-            int answer = family##_step(&r, input + at, end - at, lent, LENT, &h, &used);                   \
+            int answer = family##_step(&r, input + at, end - at, lent, LENT, &h, &used, &lost);            \
             at += used;                                                                                    \
             if (answer == MESSAGE) {                                                                       \
                 t.messages++;                                                                              \
@@ -332,6 +351,7 @@ static size checked(size check, u8 code, const u8 *payload, size n)
                 break;                                                                                     \
             } else if (answer != DONE) {                                                                   \
                 t.damages++;                                                                               \
+                t.lost += lost;                                                                            \
             }                                                                                              \
         }                                                                                                  \
         return t;                                                                                          \
@@ -345,7 +365,7 @@ int main(void)
 {
     static u8 input[INPUT];
     u8 lent[LENT], first[3] = {0};
-    struct tally t = {0, 0, 0};
+    struct tally t = {0, 0, 0, 0};
     read_full(first, 3);
     size len = read_full(input, INPUT);
     size piece = (size)(first[1] << 8 | first[2]);
@@ -365,6 +385,7 @@ int main(void)
     print(first[0], ' ');
     print(t.messages, ' ');
     print(t.damages, ' ');
+    print(t.lost, ' ');
     print(t.check, '\n');
     return 0;
 }

@@ -38,7 +38,7 @@ long c = simp (length-take, length-drop) (omega arith)
 
 -- what the call made, put together
 abbrev made : tie.After-step-in-place Inv-loop μ-loop → Step
-made c = together (c .step-in-place .last .1 .1 .0) (c .step-in-place .result)
+made c = together (c .step-in-place .last .1 .1 .1 .0) (c .step-in-place .result)
 
 within : (c : tie.After-step-in-place Inv-loop μ-loop) → turn c .loop .at + c .step-in-place .result .used ≤ ends c
 within c =
@@ -92,7 +92,7 @@ loop-again : tie.Need-loop-again Inv-loop μ-loop
 loop-again c =
     let k = c .before .before in
     let w = within (call k) in
-    (w, call k .before .before .before .before .piece-end .ensures .1, k .before .before .before .before .lent .given ∙ turn (call k) .loop .inv .2, call k .step-in-place .kept .1 .1 .0 ∙ turn (call k) .loop .inv .3)
+    (w, call k .before .before .before .before .piece-end .ensures .1, k .before .before .before .before .lent .given ∙ turn (call k) .loop .inv .2, call k .step-in-place .kept .1 .1 .1 .0 ∙ turn (call k) .loop .inv .3)
 
 same-length : tie.Need-same-length Inv-loop μ-loop
 same-length c = search needs
