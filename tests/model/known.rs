@@ -325,6 +325,7 @@ fn bytes_lost() -> Vec<KnownCall> {
     let n2_lines = "1 3 1\n1 3 1\n1 2 1\n";
     let n2_later = [ports(1, &[2]), [1_u64, 0, 3].map(u64::to_le_bytes).concat()].concat();
     vec![
+        fronius_read("a wrong length behind one more 80", "80 80 80 80 81", "07 05 00 04 00", ""),
         fronius_read("N15, a wrong length", "80 80 80 80 80 80 90", "07 07 00 04 00", ""),
         fronius_read("N15, a sum", "80 80 80 80 80 00 00 00 01 02", "06 0A 00 08 00", "00 00 01"),
         KnownCall {
