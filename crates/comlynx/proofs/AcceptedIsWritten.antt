@@ -11,7 +11,7 @@ use lib.Pow.{areBytes}
 use borrow.Author.Tests.{eqb-true, eqb-false}
 use native.Mathlib.Omega.{arith}
 use Rattle.numbers.proofs.Alike.{zero-is-one}
-use Rattle.numbers.proofs.SameLists.{both}
+use Rattle.numbers.proofs.TestLaws.{both}
 use Rattle.comlynx_checksum.specs.Checksum.{sent, others, agrees}
 use Rattle.comlynx_checksum.proofs.SentAgrees.{only-these}
 use Rattle.stream.specs.Event.{Event, message, damage, gives}

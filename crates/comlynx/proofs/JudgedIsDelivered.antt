@@ -9,7 +9,7 @@ use lib.Seq.{getD-take, length-take-le, take-take}
 use lib.Dec.{eqb, leb}
 use borrow.Author.Tests.{eq-eqb, ne-eqb, leb-true}
 use native.Mathlib.Omega.{arith}
-use Rattle.numbers.proofs.SameLists.{both}
+use Rattle.numbers.proofs.TestLaws.{both}
 use Rattle.answers.specs.Answer.{need}
 use Rattle.answers.specs.declared.Damage.the-variants.{WrongBodyLength, WrongStart, WrongSize, WrongSum}
 use Rattle.comlynx_checksum.specs.Checksum.{checksumOf, agrees, IsSentOf}

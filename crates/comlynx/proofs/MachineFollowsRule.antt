@@ -14,6 +14,7 @@ use native.Mathlib.Numerals.{add-one}
 use native.Mathlib.Nat.{lt-of-not-le}
 use native.Mathlib.Decide.{decLe}
 use native.Mathlib.Omega.{arith}
+use Rattle.numbers.proofs.TestLaws.{by-test}
 use Rattle.comlynx_checksum.specs.Checksum.{agrees}
 use Rattle.stream.specs.Event.{Event, damage}
 use Rattle.stream.specs.Rule.{Settled}
@@ -24,7 +25,6 @@ use Rattle.comlynx.specs.Rules.{withFirst, unstuffed, sized, judged, jud
 use Rattle.comlynx.specs.Machine.{tooMany, waiting, inside, escaped, broken, fresh, more, on, tells, closed, next}
 use Rattle.comlynx.specs.declared.reader.Reader.{Reader}
 use Rattle.comlynx.proofs.MachineMoves.{flag-first, flag-empty, flag-closes, flag-after-escape, flag-breaks, waits, marks, keeps, overflows, pair-flag, pair-flag-over, pair-escape, pair-escape-over, spoils, stays-broken}
-use Rattle.comlynx.proofs.UnstuffingUndoes.{by-test}
 
 -- where a stretch is awaited, and where one begins
 pub record Stands (s : Reader) (as-in : List ℕ → Reader) : Type 0 where

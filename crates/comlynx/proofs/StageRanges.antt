@@ -7,7 +7,7 @@ use lib.Dec.{eqb, ltb, leb}
 use borrow.Author.Tests.{le-leb, eq-eqb, ne-eqb, ltb-true, leb-true, eqb-true, eqb-false}
 use native.Mathlib.Omega.{arith}
 use Rattle.numbers.proofs.Alike.{zero-is-one}
-use Rattle.numbers.proofs.SameLists.{both}
+use Rattle.numbers.proofs.TestLaws.{both}
 use Rattle.comlynx.specs.Wire.{flag, escape, bodyMax, flagPair, escapePair}
 use Rattle.comlynx.specs.Rules.{lostMax}
 use Rattle.comlynx.specs.Machine as Machine

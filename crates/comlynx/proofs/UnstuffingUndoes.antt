@@ -11,16 +11,12 @@ use lib.Pow.{areBytes}
 use borrow.Author.Tests.{eqb-true, eqb-false, ne-eqb}
 use native.Mathlib.Omega.{arith}
 use Rattle.numbers.proofs.Alike.{zero-is-one}
+use Rattle.numbers.proofs.TestLaws.{by-test}
 use Rattle.stream.proofs.BytesOfParts.{bytes-cons, bytes-head, bytes-tail}
 use Rattle.stream.proofs.BorneOutByBytes.{in-test}
 use Rattle.comlynx.specs.Wire.{flag, escape, stuffed, flagPair, escapePair}
 use Rattle.comlynx.specs.Rules.{withFirst, unstuffed}
 use Rattle.comlynx.specs.Demands.{Stretch, special}
-
--- a property of a branch, from the property of each arm
-pub by-test {ℓ} : {X : Type ℓ} (P : X → Type 0) (t : Bool) {x y : X} → (t ≡ true → P x) → (t ≡ false → P y) → P (cond t x y)
-by-test P true f g = f refl
-by-test P false f g = g refl
 
 -- ---- what is stuffed is a stretch, and stands for what it was
 

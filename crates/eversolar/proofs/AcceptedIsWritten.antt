@@ -2,7 +2,7 @@
 -- Assumes nothing.
 use Prim.Native.Nat.{ℕ, suc, _+_, _≤_}
 use mathlib.Core.Path.{_≡_, refl, sym, ap, ap₂, _∙_, subst}
-use mathlib.Core.Bool.{Bool, true, false, cond, _&&_}
+use mathlib.Core.Bool.{Bool, true, false, cond}
 use mathlib.Core.Option.{none, some}
 use mathlib.Core.List.{List, [], _∷_, _++_, append-assoc}
 use lib.ListN.{length, take, drop, getD, length-drop}
@@ -11,7 +11,7 @@ use lib.Dec.{T, eqb, ltb}
 use lib.Pow.{areBytes}
 use borrow.Author.Tests.{eqb-true, ltb-false}
 use native.Mathlib.Omega.{arith}
-use Rattle.numbers.proofs.Alike.{zero-is-one}
+use Rattle.numbers.proofs.TestLaws.{both}
 use Rattle.stream.specs.Event.{Event, message, damage, gives}
 use Rattle.stream.specs.Rule.{Settled}
 use Rattle.stream.specs.Demands.{EndsWith, BorneOut}
@@ -123,10 +123,6 @@ framed at bs p g e =
 one : (bs : List ℕ) → getD bs 0 0 ≡ secondMark → bs ≡ secondMark ∷ drop 1 bs
 one [] x = absurd (omega arith)
 one (a ∷ bs) x = ap (λ (k : ℕ). k ∷ bs) x
-
-both : (s t : Bool) → s && t ≡ true → (s ≡ true) × (t ≡ true)
-both true t e = (refl, e)
-both false t e = zero-is-one cc
 
 pub opened : (b : ℕ) (bs : List ℕ) → opens (b ∷ bs) ≡ true → b ∷ bs ≡ start ++ drop 1 bs
 opened b bs e =

@@ -10,7 +10,7 @@ use lib.Dec.{T, leb}
 use lib.Pow.{areBytes}
 use borrow.Author.Tests.{le-ltb, leb-true, eqb-true}
 use native.Mathlib.Omega.{arith}
-use Rattle.numbers.proofs.SameLists.{both}
+use Rattle.numbers.proofs.TestLaws.{both}
 use Rattle.answers.specs.Written.{lengthOf, Writes}
 use Rattle.answers.specs.declared.Written.{Written}
 use Rattle.stream.proofs.BytesOfParts.{bytes-cons, bytes-append}

@@ -2,7 +2,7 @@
 -- Assumes nothing.
 use Prim.Native.Nat.{ℕ, suc, _+_, _≤_}
 use mathlib.Core.Path.{_≡_, refl, sym, ap, ap₂, _∙_, subst}
-use mathlib.Core.Bool.{Bool, true, false, cond, _&&_}
+use mathlib.Core.Bool.{Bool, true, false, cond}
 use mathlib.Core.Option.{none, some}
 use mathlib.Core.List.{List, [], _∷_, _++_}
 use lib.ListN.{length, take, drop, getD, length-drop}
@@ -11,7 +11,7 @@ use lib.Dec.{T, eqb, ltb}
 use lib.Pow.{areBytes}
 use borrow.Author.Tests.{eqb-true, eqb-false, ltb-false}
 use native.Mathlib.Omega.{arith}
-use Rattle.numbers.proofs.Alike.{zero-is-one}
+use Rattle.numbers.proofs.TestLaws.{both}
 use Rattle.stream.specs.Event.{Event, message, damage, gives}
 use Rattle.stream.specs.Rule.{Settled}
 use Rattle.stream.specs.Demands.{EndsWith, BorneOut}
@@ -101,10 +101,6 @@ two : (bs : List ℕ) → getD bs 0 0 ≡ mark → getD bs 1 0 ≡ mark → bs �
 two [] x y = absurd (omega arith)
 two (a ∷ []) x y = absurd (omega arith)
 two (a ∷ b ∷ bs) x y = ap₂ (λ (m n : ℕ). m ∷ n ∷ bs) x y
-
-both : (s t : Bool) → s && t ≡ true → (s ≡ true) × (t ≡ true)
-both true t e = (refl, e)
-both false t e = zero-is-one cc
 
 -- three 80 stand at the front
 pub opened : (b : ℕ) (bs : List ℕ) → starts (b ∷ bs) ≡ true → b ∷ bs ≡ start ++ drop 2 bs

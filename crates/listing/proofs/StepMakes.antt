@@ -15,6 +15,7 @@ use mir.Val.{Fits}
 use mir.Syntax.{w64}
 use native.Mathlib.Nat.{le-refl}
 use native.Mathlib.Omega.{arith}
+use Rattle.numbers.proofs.TestLaws.{both}
 use Rattle.answers.specs.Answer.{number}
 use Rattle.answers.specs.Refusal.{number as refusalNumber}
 use Rattle.answers.specs.declared.Refusal.{Refusal}
@@ -24,7 +25,6 @@ use Rattle.stream.specs.Pieces.{calls}
 use Rattle.uplink.specs.Packet.{leadLength, pieceMax, countIn, packetAt, IsRead}
 use Rattle.uplink.specs.Demands.{Within}
 use Rattle.uplink.specs.declared.Received.the-variants as Received
-use Rattle.uplink.proofs.PacketTests.{both}
 use Rattle.uplink.proofs.AcceptedIsWritten.{tested}
 use Rattle.ports.specs.Ports.{Seat, rowOf, seatAt}
 use Rattle.ports.specs.declared.Ports.{Ports}

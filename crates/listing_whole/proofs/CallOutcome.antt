@@ -9,12 +9,12 @@ use lib.ListN.{length}
 use lib.Dec.{eqb, leb}
 use borrow.Author.Tests.{eqb-true, eqb-false, leb-true}
 use native.Mathlib.Omega.{arith}
+use Rattle.numbers.proofs.TestLaws.{both}
 use Rattle.answers.specs.Answer.{number, need}
 use Rattle.answers.specs.Refusal.{number as refusalNumber}
 use Rattle.answers.specs.declared.Refusal.{Refusal}
 use Rattle.answers.specs.declared.Refusal.the-variants.{NoRoom, BytesMissing, Spoilt, TooManyPackets}
 use Rattle.uplink.specs.Packet.{leadLength, pieceMax, portIn, countIn, packetAt}
-use Rattle.uplink.proofs.PacketTests.{both}
 use Rattle.ports.proofs.EveryRow.{OnSeat}
 use Rattle.listing.specs.Steps.{packetIn, packetsMax}
 use Rattle.listing.specs.Steps.{fed, readable, Made, unmoved, wantsMore, ends, takes, taking, noPacket, atEnd, byPacket, going, inRange, roomLeast, made}

@@ -9,6 +9,7 @@ use lib.Seq.{take-append-le, drop-append-le}
 use lib.Dec.{leb, eqb}
 use borrow.Author.Tests.{leb-true, leb-false, le-leb, eqb-true}
 use native.Mathlib.Omega.{arith}
+use Rattle.numbers.proofs.TestLaws.{both}
 use Rattle.answers.specs.Answer.{Answer, answer, number}
 use Rattle.answers.specs.Refusal.{number as refusalNumber, refused}
 use Rattle.answers.specs.declared.Refusal.{Refusal}
@@ -16,7 +17,7 @@ use Rattle.answers.specs.declared.Refusal.the-variants.{WrongMark, WrongVersion
 use Rattle.uplink.specs.Packet.{leadLength, pieceMax, known, versionOf, marked, versionIn, portIn, countIn, counted, carried, packetAt}
 use Rattle.listing.specs.Steps.{Packet, packetIn}
 use Rattle.ports.proofs.EveryRow.{OnSeat, ported}
-use Rattle.uplink.proofs.PacketTests.{both, carried-count}
+use Rattle.uplink.proofs.PacketTests.{carried-count}
 use Rattle.uplink.proofs.AcceptedIsWritten.{port-within}
 
 -- ---- a lead stays as it is, whatever follows

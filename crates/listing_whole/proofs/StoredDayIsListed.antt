@@ -11,12 +11,13 @@ use lib.Dec.{T, eqb}
 use lib.Pow.{areBytes}
 use native.Mathlib.Omega.{arith}
 use borrow.Author.Tests.{ne-eqb}
+use Rattle.numbers.proofs.TestLaws.{both}
 use Rattle.answers.specs.Answer.{Answer, answer, number}
 use Rattle.stream.specs.Event.{Event, message}
 use Rattle.stream.specs.Written.{written, Each}
 use Rattle.stream.proofs.Demands.{written-bytes}
 use Rattle.uplink.specs.Packet.{leadLength, known, versionOf, counted, takes, portIn, countIn, packet, packetAt}
-use Rattle.uplink.proofs.PacketTests.{both, takes-count}
+use Rattle.uplink.proofs.PacketTests.{takes-count}
 use Rattle.uplink.proofs.AcceptedIsWritten.{tested, reads-packet}
 use Rattle.uplink.proofs.Demands.{Put, put}
 use Rattle.ports.specs.Ports.{Seat, seats, sumOver, rowOf}

@@ -1,3 +1,4 @@
 pub mod Alike
+pub mod TestLaws
 pub mod SameLists
 pub mod One

@@ -2,16 +2,13 @@
 -- Assumes nothing.
 use Prim.Native.Nat.{ℕ}
 use mathlib.Core.Path.{_≡_, refl, ap₂}
-use mathlib.Core.Bool.{Bool, true, false, _&&_}
+use mathlib.Core.Bool.{true}
 use mathlib.Core.List.{List, [], _∷_}
 use lib.Dec.{eqb}
 use borrow.Author.Tests.{eqb-true, eq-eqb}
 use Rattle.numbers.specs.Lists.{same}
 use Rattle.numbers.proofs.Alike.{zero-is-one}
-
-pub both : (a b : Bool) → (a && b) ≡ true → (a ≡ true) × (b ≡ true)
-both true b e = (refl, e)
-both false b e = zero-is-one cc
+use Rattle.numbers.proofs.TestLaws.{both}
 
 pub same-refl : (s : List ℕ) → same s s ≡ true
 same-refl [] = refl

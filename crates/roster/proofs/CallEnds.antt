@@ -10,7 +10,7 @@ use lib.ListN.{length, getD, drop, set}
 use lib.Dec.{eqb, leb}
 use borrow.Author.Tests.{leb-true, eq-eqb, ne-eqb, not-true, not-false}
 use Rattle.numbers.specs.Addresses.{isAddress}
-use Rattle.numbers.proofs.SameLists.{both}
+use Rattle.numbers.proofs.TestLaws.{both}
 use Rattle.answers.specs.declared.Refusal.the-variants.{RosterFull, WrongAddressOrExponentTooLow, NotForThisCall, Spoilt}
 use Rattle.roster.specs.Roster.{places, serialSize, freePlace, usedPlace, free, usedBy, first, noPlace, spoilt, givingSound, giving, noneAt, removing, finding}
 use Rattle.roster.specs.Bytes.{rosterSize, placesOf, bytesOf}

@@ -12,7 +12,8 @@ use lib.Dec.{eqb}
 use borrow.Author.Tests.{eq-eqb, ne-eqb, not-true}
 use Rattle.numbers.specs.Lists.{same}
 use Rattle.numbers.proofs.Alike.{zero-is-one}
-use Rattle.numbers.proofs.SameLists.{both, same-refl, same-true}
+use Rattle.numbers.proofs.TestLaws.{both}
+use Rattle.numbers.proofs.SameLists.{same-refl, same-true}
 use Rattle.roster.specs.Roster.{serialSize, usedPlace, freePlace, used, free, usedBy, good, first, noPlace, alone, sound}
 use Rattle.roster.specs.declared.Place.{Place}
 use Rattle.roster.proofs.SoundTest.{eqb-alike, Fine}

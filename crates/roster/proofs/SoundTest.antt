@@ -12,7 +12,7 @@ use lib.Dec.{eqb}
 use borrow.Author.Tests.{eqb-true, eqb-false, eq-eqb, ne-eqb, not-false}
 use Rattle.numbers.specs.Lists.{same}
 use Rattle.numbers.proofs.Alike.{zero-is-one}
-use Rattle.numbers.proofs.SameLists.{both}
+use Rattle.numbers.proofs.TestLaws.{both}
 use Rattle.roster.specs.Roster.{places, serialSize, freePlace, used, free, usedBy, good, first, alone, sound, spoilt}
 use Rattle.roster.specs.Bytes.{placeSize, rosterSize, placesOf, Whole}
 use Rattle.roster.specs.Inside.{placeIn, soundAt}

@@ -7,15 +7,11 @@ use mathlib.Core.List.{List}
 use lib.ListN.{length}
 use lib.Dec.{eqb}
 use borrow.Author.Tests.{eq-eqb, ne-eqb, eqb-true}
-use Rattle.numbers.proofs.Alike.{zero-is-one}
+use Rattle.numbers.proofs.TestLaws.{both}
 use Rattle.stream.specs.Event.{Event, refuses}
 use Rattle.stream.specs.Pieces.{Moved}
 use Rattle.stream.specs.Call.{Seen, called, delivered, retells, Steps, whole}
 use Rattle.stream.specs.Demands.{InPlace}
-
-both : (a b : Bool) → a && b ≡ true → (a ≡ true) × (b ≡ true)
-both true b e = (refl, e)
-both false b e = zero-is-one cc
 
 module _ {S : Type 0} (held : S → List ℕ) (full : ℕ) (inRange : S → Bool) where
   pub whole-sound : (s : S) → whole held full inRange s ≡ true → (length (held s) ≡ full) × (inRange s ≡ true)

@@ -9,6 +9,7 @@ use lib.ListN.{length, getD, take, drop, length-append, length-drop, take-append
 use lib.Seq.{drop-cons, length-take-le}
 use lib.Dec.{leb, eqb}
 use borrow.Author.Tests.{leb-true, le-leb, eqb-true, eq-eqb}
+use Rattle.numbers.proofs.TestLaws.{both}
 use Rattle.answers.specs.Answer.{Answer, answer, need}
 use Rattle.answers.specs.Refusal.{refused}
 use Rattle.answers.specs.Refusal as Refusal
@@ -17,7 +18,7 @@ use Rattle.answers.specs.declared.Refusal.the-variants.{WrongMark, WrongVersion
 use Rattle.answers.proofs.NumbersHaveCases.{refusal-above}
 use Rattle.uplink.specs.Packet.{mark, versionOf, known, counted, takes, leadLength, lead, packet, marked, versionIn, portIn, countIn, carried, packetAt}
 use Rattle.uplink.specs.Demands.{Begins}
-use Rattle.uplink.proofs.PacketTests.{both, Head}
+use Rattle.uplink.proofs.PacketTests.{Head}
 
 -- ---- tests
 

@@ -10,6 +10,7 @@ use lib.Seq.{take-all, take-length, drop-drop, sets, sets-eq}
 use lib.Dec.{leb, eqb}
 use borrow.Author.Tests.{leb-true, le-leb, lt-leb}
 use borrow.Rule.Slice.PartMut.{putMid}
+use Rattle.numbers.proofs.TestLaws.{both}
 use Rattle.answers.specs.Answer.{answer, need}
 use Rattle.answers.specs.Refusal.{refused}
 use Rattle.answers.specs.Written.{writing, Writes}
@@ -29,10 +30,6 @@ by-true false x y e = let z : false ≡ true = e in cc
 pub by-false : {A : Type 0} (t : Bool) (x y : A) → t ≡ false → y ≡ cond t x y
 by-false false x y e = refl
 by-false true x y e = let z : true ≡ false = e in cc
-
-pub both : (a b : Bool) → (a && b) ≡ true → (a ≡ true) × (b ≡ true)
-both true b e = (refl, e)
-both false b e = let z : false ≡ true = e in (z, cc)
 
 pub counted-within : (count : ℕ) → counted count ≡ true → (1 ≤ count) × (count ≤ pieceMax)
 unfolding counted

@@ -4,8 +4,8 @@ use native.Mathlib.Omega.{arith}
 use mathlib.Core.Path.{_≡_}
 use lib.ListN.{length}
 use borrow.Author.Tests.{ltb-true}
-use Rattle.uplink.proofs.PacketTests.{both}
 use borrow.Author.Needs.{needs}
+use Rattle.numbers.proofs.TestLaws.{both}
 use Rattle.sbrlist.proofs.read_some.Statement.{statement}
 use Rattle.sbrlist.proofs.read_some.Tie as tie
 
