@@ -12,30 +12,21 @@ use borrow.Author.Tests.{ltb-false}
 use native.Mathlib.Omega.{arith}
 use Rattle.stream.specs.Event.{Event, message, damage}
 use Rattle.stream.specs.Rule.{Settled}
-use Rattle.stream.proofs.BorneOutByBytes.{in-test, none-found, same-found, Bears, bears-on, bears-all}
+use Rattle.stream.proofs.BorneOutByBytes.{in-test, none-found}
+use Rattle.stream.proofs.LostAreLast as Last
+use Rattle.stream.proofs.LostAreLast.{hit, found-loses, loses-on, loses-all}
 use Rattle.eversolar_words.specs.Words.{word}
 use Rattle.eversolar.specs.Wire.{Message, earlierOf, checksum, messageOf}
 use Rattle.eversolar.specs.Rules.{judged, frame, opens, sought}
 use Rattle.eversolar.specs.Demands.{eversolar, LostWith, Lost}
 use Rattle.eversolar.proofs.AcceptedIsWritten.{start, opened}
 
--- `pre` and the bytes bs up to the one that settles a damage end with the frame that is lost
-record Loses (pre bs : List ℕ) (at : ℕ) (n lost p : ℕ) : Type 0 where
-  lostFrame : List ℕ
-  is : LostWith n lost lostFrame
-  ends : Bears eversolar lostFrame pre bs at (record { event = damage n lost; used = p })
+-- what is demanded of the frame that is lost, of a damage and of whatever is found
+abbrev Loses : List ℕ → List ℕ → (at what n p : ℕ) → Type 0
+Loses = Last.Loses eversolar LostWith
 
--- a byte on, where what stands before is seen as `front` and then `on`
-loses-on : (front : List ℕ) {pre on bs : List ℕ} {b at n lost p : ℕ} → pre ++ (b ∷ []) ≡ front ++ on → Loses on bs (at + 1) n lost p → Loses pre (b ∷ bs) at n lost p
-loses-on front e r = record { lostFrame = r .lostFrame; is = r .is; ends = bears-on eversolar (r .lostFrame) front e (r .ends) }
-
--- the same of whatever is found: with a message nothing is lost
-abbrev LosesBy : List ℕ → List ℕ → ℕ → ℕ → Event Message → Type 0
-LosesBy pre bs at p (message m) = Unit {0}
-LosesBy pre bs at p (damage n lost) = Loses pre bs at n lost p
-
-abbrev hit : ℕ → ℕ → ℕ → Settled (Event Message)
-hit n lost p = record { event = damage n lost; used = p }
+abbrev LosesBy : List ℕ → List ℕ → (at p : ℕ) → Event Message → Type 0
+LosesBy = Last.LosesBy eversolar LostWith
 
 -- ---- a whole frame: what stands behind AA 55
 
@@ -69,8 +60,7 @@ unfolding frame
 framed at bs n lost p e =
     in-test (λ o. o ≡ some (hit n lost p)) (Loses start bs at n lost p) (ltb (length bs) (9 + getD bs 6 0)) none _ e
     (λ t s. none-found s)
-    (λ t s. subst (λ (q : Settled (Event Message)). LosesBy start bs at (q .used) (q .event)) (same-found s)
-    (judged-loses bs (ltb-false (length bs) (9 + getD bs 6 0) t) at))
+    (λ t s. found-loses start bs at _ n lost p s (judged-loses bs (ltb-false (length bs) (9 + getD bs 6 0) t) at))
 
 -- ---- AA directly followed by 55, and what stands before it
 
@@ -84,4 +74,4 @@ found (b ∷ bs) at n lost p e =
     (λ t s. loses-on (b ∷ []) refl (found bs (at + 1) n lost p s))
 
 pub lost : Lost
-lost bs n l p e = let r = found bs 0 n l p e in (r .lostFrame, r .is, bears-all eversolar (r .lostFrame) (r .ends) .1)
+lost bs n l p e = loses-all bs n l p (found bs 0 n l p e)

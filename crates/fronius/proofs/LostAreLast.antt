@@ -13,32 +13,20 @@ use borrow.Author.Tests.{eqb-true, ltb-true, ltb-false}
 use native.Mathlib.Omega.{arith}
 use Rattle.stream.specs.Event.{Event, message, damage}
 use Rattle.stream.specs.Rule.{Settled}
-use Rattle.stream.proofs.BorneOutByBytes.{in-test, none-found, same-found, Bears, bears-on, bears-all}
+use Rattle.stream.proofs.BorneOutByBytes.{in-test, none-found}
+use Rattle.stream.proofs.LostAreLast as Last
+use Rattle.stream.proofs.LostAreLast.{hit, found-loses, loses-on, loses-all}
 use Rattle.fronius.specs.Wire.{Message, mark, checksum, messageOf}
 use Rattle.fronius.specs.Rules.{judged, frame, sized, starts, sought}
 use Rattle.fronius.specs.Demands.{fronius, LostWith, Lost}
 use Rattle.fronius.proofs.AcceptedIsWritten.{start, opened}
 
--- `pre` and the bytes bs up to the one that settles a damage end with the frame that is lost
-record Loses (pre bs : List ℕ) (at : ℕ) (n lost p : ℕ) : Type 0 where
-  lostFrame : List ℕ
-  is : LostWith n lost lostFrame
-  ends : Bears fronius lostFrame pre bs at (record { event = damage n lost; used = p })
+-- what is demanded of the frame that is lost, of a damage and of whatever is found
+abbrev Loses : List ℕ → List ℕ → (at what n p : ℕ) → Type 0
+Loses = Last.Loses fronius LostWith
 
--- a byte on, where what stands before is seen as `front` and then `on`
-loses-on : (front : List ℕ) {pre on bs : List ℕ} {b at n lost p : ℕ} → pre ++ (b ∷ []) ≡ front ++ on → Loses on bs (at + 1) n lost p → Loses pre (b ∷ bs) at n lost p
-loses-on front e r = record { lostFrame = r .lostFrame; is = r .is; ends = bears-on fronius (r .lostFrame) front e (r .ends) }
-
--- the same of whatever is found: with a message nothing is lost
-abbrev LosesBy : List ℕ → List ℕ → ℕ → ℕ → Event Message → Type 0
-LosesBy pre bs at p (message m) = Unit {0}
-LosesBy pre bs at p (damage n lost) = Loses pre bs at n lost p
-
-abbrev hit : ℕ → ℕ → ℕ → Settled (Event Message)
-hit n lost p = record { event = damage n lost; used = p }
-
-found-loses : (pre bs : List ℕ) (at : ℕ) (q : Settled (Event Message)) (n lost p : ℕ) → some q ≡ some (hit n lost p) → LosesBy pre bs at (q .used) (q .event) → Loses pre bs at n lost p
-found-loses pre bs at q n lost p e l = subst (λ (r : Settled (Event Message)). LosesBy pre bs at (r .used) (r .event)) (same-found e) l
+abbrev LosesBy : List ℕ → List ℕ → (at p : ℕ) → Event Message → Type 0
+LosesBy = Last.LosesBy fronius LostWith
 
 -- ---- a whole frame
 
@@ -90,4 +78,4 @@ found (b ∷ bs) at n lost p e =
     (λ t s. loses-on (b ∷ []) refl (found bs (at + 1) n lost p s))
 
 pub lost : Lost
-lost bs n l p e = let r = found bs 0 n l p e in (r .lostFrame, r .is, bears-all fronius (r .lostFrame) (r .ends) .1)
+lost bs n l p e = loses-all bs n l p (found bs 0 n l p e)

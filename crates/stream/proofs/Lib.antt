@@ -10,5 +10,6 @@ pub mod HostRelies
 pub mod FamilyFacts
 pub mod FollowsByBytes
 pub mod BorneOutByBytes
+pub mod LostAreLast
 pub mod ResultsExist
 pub mod Demands
