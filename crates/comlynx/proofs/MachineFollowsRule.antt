@@ -5,12 +5,10 @@ use mathlib.Core.Path.{_≡_, refl, sym, ap, ap₂, _∙_, subst}
 use mathlib.Core.Bool.{Bool, true, false, cond}
 use mathlib.Core.Option.{Option, none, some}
 use mathlib.Core.List.{List, [], _∷_, _++_, append-nil, append-assoc}
-use lib.ListN.{length, take, set, replicate, length-append, length-set, length-replicate}
-use lib.Seq.{take-all, take-append-le, take-suc-set}
+use lib.ListN.{length, set, replicate, length-append, length-replicate}
 use lib.Dec.{T, eqb, ltb}
 use lib.Pow.{areBytes}
 use borrow.Author.Tests.{eqb-true, eqb-false, ne-eqb, ltb-true, ltb-false, le-leb, lt-leb}
-use native.Mathlib.Numerals.{add-one}
 use native.Mathlib.Nat.{lt-of-not-le}
 use native.Mathlib.Decide.{decLe}
 use native.Mathlib.Omega.{arith}
@@ -20,6 +18,7 @@ use Rattle.stream.specs.Event.{Event, damage}
 use Rattle.stream.specs.Rule.{Settled}
 use Rattle.stream.proofs.FamilyFacts.{Follows}
 use Rattle.stream.proofs.FollowsByBytes.{Finds, finds-end, finds-goes, finds-tells, follows-by}
+use Rattle.stream.proofs.HeldAndCounted.{Holds, holds-none, holds-kept, holds-over, holds-all, holds-too-many}
 use Rattle.comlynx.specs.Wire.{Message, flag, escape, bodyMax, flagPair, escapePair, bodyLeast}
 use Rattle.comlynx.specs.Rules.{withFirst, unstuffed, sized, judged, judgedBody, lostOf, judge, within, before, rule}
 use Rattle.comlynx.specs.Machine.{tooMany, waiting, inside, escaped, broken, fresh, more, on, tells, closed, next}
@@ -39,55 +38,31 @@ At true s = Stands s (inside 0 0)
 abbrev Agrees : ℕ → Option (Settled (Event Message)) → Reader → List ℕ → Type 0
 Agrees = Finds next (At true)
 
--- ---- what is held of a stretch
+-- ---- what is held of a stretch: the bytes of its body, as far as there is room for them
 
--- `c` and `h` hold the bytes `u`, or their first 265 where they are more
-record Holds (c : ℕ) (h u : List ℕ) : Type 0 where
-  wide : length h ≡ bodyMax
-  counted : c ≡ min (length u) tooMany
-  same : take c h ≡ take bodyMax u
+room : bodyMax < tooMany
+room = omega arith
 
-holds-more : (c : ℕ) (h u : List ℕ) (b : ℕ) → c < bodyMax → Holds c h u → Holds (c + 1) (set h c b) (u ++ b ∷ [])
-holds-more c h u b k r =
-    let e : length (u ++ b ∷ []) ≡ length u + 1 = length-append u (b ∷ []) in
-    record {
-      wide = length-set h c b ∙ r .wide;
-      counted = omega (arith, e, r .counted);
-      same =
-          ap (λ (n : ℕ). take n (set h c b)) (add-one c)
-          ∙ take-suc-set h c b (omega (arith, r .wide))
-          ∙ ap (λ (l : List ℕ). l ++ b ∷ []) (r .same ∙ take-all bodyMax u (omega (arith, r .counted)))
-          ∙ sym (take-all bodyMax (u ++ b ∷ []) (omega (arith, e, r .counted)));
-    }
-
-holds-full : (c : ℕ) (h u : List ℕ) (b : ℕ) → bodyMax ≤ c → Holds c h u → Holds tooMany h (u ++ b ∷ [])
+-- beyond the room there is one count alone
+holds-full : (c : ℕ) (h u : List ℕ) (b : ℕ) → bodyMax ≤ c → Holds bodyMax tooMany c h u → Holds bodyMax tooMany tooMany h (u ++ b ∷ [])
 holds-full c h u b k r =
-    let e : length (u ++ b ∷ []) ≡ length u + 1 = length-append u (b ∷ []) in
-    record {
-      wide = r .wide;
-      counted = omega (arith, e, r .counted);
-      same =
-          take-all tooMany h (omega (arith, r .wide))
-          ∙ sym (take-all c h (omega (arith, r .wide)))
-          ∙ r .same
-          ∙ sym (take-append-le bodyMax u (b ∷ []) (omega (arith, r .counted)));
-    }
+    let e : min (c + 1) tooMany ≡ tooMany = omega arith in
+    subst (λ (n : ℕ). Holds bodyMax tooMany n h (u ++ b ∷ [])) e (holds-over bodyMax tooMany room c h u b k r)
 
 too-long : (n : ℕ) → bodyMax < n → sized n ≡ false
 too-long n k = rw (le-leb bodyLeast n (omega arith), lt-leb n bodyMax k)
 
 -- so what is held is judged as the whole
-holds-closed : (k c : ℕ) (h u : List ℕ) → Holds c h u → closed k c h ≡ judged k (length u) (agrees u) u
+holds-closed : (k c : ℕ) (h u : List ℕ) → Holds bodyMax tooMany c h u → closed k c h ≡ judged k (length u) (agrees u) u
 unfolding judged
 holds-closed k c h u r =
     elim (decLe (length u) bodyMax) [
       | yes y ↦ (
-          let e : c ≡ length u = omega (arith, r .counted) in
-          let f : take c h ≡ u = r .same ∙ take-all bodyMax u y in
-          ap₂ (λ (n : ℕ) (l : List ℕ). judged k n (agrees l) l) e f)
+          let all = holds-all bodyMax tooMany room c h u y r in
+          ap₂ (λ (n : ℕ) (l : List ℕ). judged k n (agrees l) l) (all .0) (all .1))
       | no y ↦ (
           let lt : bodyMax < length u = lt-of-not-le y in
-          rw (too-long c (omega (arith, r .counted)), too-long (length u) (omega arith)))
+          rw (too-long c (holds-too-many bodyMax tooMany room c h u lt r), too-long (length u) (omega arith)))
     ]
 
 -- ---- where the machine stands in a stretch
@@ -123,7 +98,7 @@ empty bad u = false
 
 -- of a stretch `came` has come, which left the machine so
 record Track (m : Mode) (k c : ℕ) (h u came : List ℕ) : Type 0 where
-  holds : Holds c h u
+  holds : Holds bodyMax tooMany c h u
   sent : k ≡ lostOf came
   means : (rest : List ℕ) → unstuffed false (came ++ rest) ≡ whole m u rest
   begun : eqb (length came) 0 ≡ empty m u
@@ -136,7 +111,7 @@ means-on : (m n : Mode) (u v came : List ℕ) (b : ℕ) → ((rest : List ℕ) �
 means-on m n u v came b f g rest = ap (unstuffed false) (append-assoc came (b ∷ []) rest) ∙ f (b ∷ rest) ∙ g rest
 
 begins-so : (h : List ℕ) → length h ≡ bodyMax → Track clear 0 0 h [] []
-begins-so h w = record { holds = record { wide = w; counted = refl; same = refl }; sent = refl; means = λ rest. sym (ahead-nil (unstuffed false rest)); begun = refl }
+begins-so h w = record { holds = holds-none bodyMax tooMany room h w; sent = refl; means = λ rest. sym (ahead-nil (unstuffed false rest)); begun = refl }
   where
     ahead-nil : (o : Option (List ℕ)) → ahead [] o ≡ o
     ahead-nil none = refl
@@ -183,7 +158,7 @@ one-more : (bs : List ℕ) → Claim bs → (m : Mode) (k c : ℕ) (h u came : L
     → Agrees at (within (at + 1) (came ++ b ∷ []) bs) (stateOf m k c h) (b ∷ bs)
 one-more bs ih m k c h u came t at b v f g w = go (ltb c bodyMax) refl
   where
-    track : (c′ : ℕ) (h′ : List ℕ) → Holds c′ h′ (u ++ v ∷ []) → Track clear (more k 1) c′ h′ (u ++ v ∷ []) (came ++ b ∷ [])
+    track : (c′ : ℕ) (h′ : List ℕ) → Holds bodyMax tooMany c′ h′ (u ++ v ∷ []) → Track clear (more k 1) c′ h′ (u ++ v ∷ []) (came ++ b ∷ [])
     track c′ h′ r =
         record {
           holds = r;
@@ -195,7 +170,7 @@ one-more bs ih m k c h u came t at b v f g w = go (ltb c bodyMax) refl
     go : (q : Bool) → ltb c bodyMax ≡ q → Agrees at (within (at + 1) (came ++ b ∷ []) bs) (stateOf m k c h) (b ∷ bs)
     go true e =
         let lt = ltb-true c bodyMax e in
-        finds-goes next (At true) (f lt) (ih clear (more k 1) (c + 1) (set h c v) (u ++ v ∷ []) (came ++ b ∷ []) (track (c + 1) (set h c v) (holds-more c h u v lt (t .holds))) (at + 1))
+        finds-goes next (At true) (f lt) (ih clear (more k 1) (c + 1) (set h c v) (u ++ v ∷ []) (came ++ b ∷ []) (track (c + 1) (set h c v) (holds-kept bodyMax tooMany room c h u v lt (t .holds))) (at + 1))
     go false e =
         let le = ltb-false c bodyMax e in
         finds-goes next (At true) (g le) (ih clear (more k 1) tooMany h (u ++ v ∷ []) (came ++ b ∷ []) (track tooMany h (holds-full c h u v le (t .holds))) (at + 1))

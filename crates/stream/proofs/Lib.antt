@@ -9,6 +9,7 @@ pub mod HeldIsDelivered
 pub mod HostRelies
 pub mod FamilyFacts
 pub mod FollowsByBytes
+pub mod HeldAndCounted
 pub mod BorneOutByBytes
 pub mod LostAreLast
 pub mod ResultsExist
