@@ -3,6 +3,6 @@
 use std::process::ExitCode;
 
 fn main() -> ExitCode {
-    let model = drive::Model { session: paper::probe::session, listing: paper::listing::listing };
-    drive::run(model, std::env::args().skip(1))
+    let model = driver::Model { session: paper::probe::session, listing: paper::listing::listing };
+    driver::run(model, std::env::args().skip(1))
 }
