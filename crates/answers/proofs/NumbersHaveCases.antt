@@ -15,9 +15,9 @@ use Rattle.answers.specs.Damage as Damage
 use Rattle.answers.specs.Written as Written
 use Rattle.answers.specs.Demands.{times, Refusals, Damages}
 use Rattle.answers.specs.declared.Refusal.{Refusal}
-use Rattle.answers.specs.declared.Refusal.the-variants.{TooLong, NoRoom, WrongMark, WrongVersion, WrongPortOrCount, BytesMissing, RosterFull, ExponentTooHigh, WrongAddressOrExponentTooLow, NotForThisCall, Spoilt, TooManyPackets}
+use Rattle.answers.specs.declared.Refusal.the-variants.{TooLong, NoRoom, WrongMark, WrongVersion, WrongPortOrCount, BytesMissing, RosterFull, ExponentTooHigh, WrongAddressOrExponentTooLow, NotForThisCall, Spoilt, TooManyPackets, WrongCharacter}
 use Rattle.answers.specs.declared.Damage.{Damage}
-use Rattle.answers.specs.declared.Damage.the-variants.{BrokenPair, WrongBodyLength, WrongStart, WrongSize, WrongSum, WrongLengthByte}
+use Rattle.answers.specs.declared.Damage.the-variants.{BrokenPair, WrongBodyLength, WrongStart, WrongSize, WrongSum, WrongLengthByte, WrongCharacter as OutOfSet}
 use Rattle.answers.specs.declared.Written.{Written}
 use Rattle.answers.specs.declared.Written.the-variants.{Done, Refused}
 
@@ -37,7 +37,7 @@ has-name told other (c ∷ cases) n h = go (eqb n (told c)) refl h (has-name tol
     go false e k rest = rest (omega arith)
 
 abbrev allRefusals : List Refusal
-allRefusals = TooLong ∷ NoRoom ∷ WrongMark ∷ WrongVersion ∷ WrongPortOrCount ∷ BytesMissing ∷ RosterFull ∷ ExponentTooHigh ∷ WrongAddressOrExponentTooLow ∷ NotForThisCall ∷ Spoilt ∷ TooManyPackets ∷ []
+allRefusals = TooLong ∷ NoRoom ∷ WrongMark ∷ WrongVersion ∷ WrongPortOrCount ∷ BytesMissing ∷ RosterFull ∷ ExponentTooHigh ∷ WrongAddressOrExponentTooLow ∷ NotForThisCall ∷ Spoilt ∷ TooManyPackets ∷ WrongCharacter ∷ []
 
 -- of each refusal: its number is listed once and leads back to it; it is not below 8
 each-refusal : (r : Refusal)
@@ -55,6 +55,7 @@ each-refusal WrongAddressOrExponentTooLow = (refl, refl, refl)
 each-refusal NotForThisCall = (refl, refl, refl)
 each-refusal Spoilt = (refl, refl, refl)
 each-refusal TooManyPackets = (refl, refl, refl)
+each-refusal WrongCharacter = (refl, refl, refl)
 
 pub refusals : Refusals
 refusals = record {
@@ -65,7 +66,7 @@ refusals = record {
 }
 
 abbrev allDamages : List Damage
-allDamages = BrokenPair ∷ WrongBodyLength ∷ WrongStart ∷ WrongSize ∷ WrongSum ∷ WrongLengthByte ∷ []
+allDamages = BrokenPair ∷ WrongBodyLength ∷ WrongStart ∷ WrongSize ∷ WrongSum ∷ WrongLengthByte ∷ OutOfSet ∷ []
 
 each-damage : (d : Damage) → let n = Damage.number d in (times n (map Damage.number allDamages) ≡ 1) × (named Damage.number WrongSum allDamages n ≡ d)
 each-damage BrokenPair = (refl, refl)
@@ -74,6 +75,7 @@ each-damage WrongStart = (refl, refl)
 each-damage WrongSize = (refl, refl)
 each-damage WrongSum = (refl, refl)
 each-damage WrongLengthByte = (refl, refl)
+each-damage OutOfSet = (refl, refl)
 
 pub damages : Damages
 damages = record {
@@ -90,7 +92,7 @@ refusal-alike = alike-by-back Refusal.number (refusals .back) (refusals .case)
 pub damage-alike : (a b : Damage) → Damage.number a ≡ Damage.number b → a ≡ b
 damage-alike = alike-by-back Damage.number (damages .back) (damages .case)
 
--- a refusal's number is not 0, and no damage has it
+-- a refusal's number is not 0, nor 1
 pub refusal-above : (r : Refusal) → 8 ≤ Refusal.number r
 refusal-above r = leb-true 8 (Refusal.number r) (each-refusal r .2)
 

@@ -1,10 +1,10 @@
--- The refusals, 8 to 19.
+-- The refusals, 8 to 19 and 21.
 use Prim.Native.Nat.{ℕ}
 use mathlib.Core.Path.{_≡_}
 use lib.ListN.{replicate}
 use Rattle.answers.specs.Answer.{Answer, answer}
 use Rattle.answers.specs.declared.Refusal.{Refusal}
-use Rattle.answers.specs.declared.Refusal.the-variants.{TooLong, NoRoom, WrongMark, WrongVersion, WrongPortOrCount, BytesMissing, RosterFull, ExponentTooHigh, WrongAddressOrExponentTooLow, NotForThisCall, Spoilt, TooManyPackets}
+use Rattle.answers.specs.declared.Refusal.the-variants.{TooLong, NoRoom, WrongMark, WrongVersion, WrongPortOrCount, BytesMissing, RosterFull, ExponentTooHigh, WrongAddressOrExponentTooLow, NotForThisCall, Spoilt, TooManyPackets, WrongCharacter}
 
 abbrev pub number : Refusal → ℕ
 number TooLong = 8
@@ -19,6 +19,7 @@ number WrongAddressOrExponentTooLow = 16
 number NotForThisCall = 17
 number Spoilt = 18
 number TooManyPackets = 19
+number WrongCharacter = 21
 
 -- WHAT A CALL TELLS WITH A REFUSAL: its number, and nothing of what it would return else. `tells` puts the two together
 abbrev pub refusedAs : {A B : Type 0} → (ℕ → A → B) → A → Refusal → B

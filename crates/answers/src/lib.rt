@@ -29,13 +29,15 @@ pub enum Refusal {
     Spoilt,
     // 19: more input after the last packet that a listing takes
     TooManyPackets,
+    // 21: a character outside its set
+    WrongCharacter,
 }
 
 // What a reader found wrong with bytes that it then passed over.
 pub enum Damage {
     // 2: an escape that is followed by neither of its two bytes
     BrokenPair,
-    // 3: a body's length, which no message has
+    // 3: the length of a body or a frame, which no message has
     WrongBodyLength,
     // 4: a body that does not begin as every body does
     WrongStart,
@@ -45,6 +47,8 @@ pub enum Damage {
     WrongSum,
     // 7: a length byte, which no message has
     WrongLengthByte,
+    // 21: a character outside its set
+    WrongCharacter,
 }
 
 // What a writer did with the buffer lent to it.
@@ -72,6 +76,7 @@ impl Refusal {
             Refusal::NotForThisCall => 17,
             Refusal::Spoilt => 18,
             Refusal::TooManyPackets => 19,
+            Refusal::WrongCharacter => 21,
         }
     }
 }
@@ -87,6 +92,7 @@ impl Damage {
             Damage::WrongSize => 5,
             Damage::WrongSum => 6,
             Damage::WrongLengthByte => 7,
+            Damage::WrongCharacter => 21,
         }
     }
 }

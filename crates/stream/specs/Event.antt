@@ -13,7 +13,7 @@ pub data Told (M : Type 0) : Type 0 where
   gives : Event M → Told M
   refuses : ℕ → Told M
 
--- 0 done, piece used up; 1 message read; 2 to 7 damage; from 8 on a refusal
+-- 0 done, piece used up; 1 message read; a damage or a refusal its own number. The two may share one: 21 of document 02 is either
 abbrev pub number : {M : Type 0} → Told M → ℕ
 number done = 0
 number (gives (message m)) = 1
