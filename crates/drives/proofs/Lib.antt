@@ -1,0 +1,16 @@
+pub mod CharacterSets
+pub mod MachineMoves
+pub mod StageRanges
+pub mod FrameLimits
+pub mod FillScans
+pub mod JudgedIsDelivered
+pub mod WriterWritesFrame
+pub mod MachineFollowsRule
+pub mod AcceptedIsWritten
+pub mod ResultsExist
+pub mod WrittenIsRead
+pub mod FamilyFacts
+pub mod LostAreLast
+pub mod Demands
+pub mod Cases
+pub mod One

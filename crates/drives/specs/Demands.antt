@@ -1,0 +1,59 @@
+-- Drives as a family, and what is demanded of it: as of every family, and what is its own.
+use Prim.Native.Nat.{ℕ, min}
+use mathlib.Core.Path.{_≡_}
+use mathlib.Core.Bool.{true}
+use mathlib.Core.Option.{some}
+use mathlib.Core.List.{List, [], _∷_, _++_}
+use lib.ListN.{length, take}
+use Rattle.answers.specs.Written.{lengthOf}
+use Rattle.answers.specs.declared.Written.{Written}
+use Rattle.stream.specs.Event.{damage}
+use Rattle.stream.specs.Call.{seenBy}
+use Rattle.stream.specs.Family.{Family}
+use Rattle.stream.specs.Demands.{Demands, EndsWith}
+use Rattle.drives.specs.Wire.{Message, Takes, opens, wire}
+use Rattle.drives.specs.Rules.{rule}
+use Rattle.drives.specs.Machine.{fresh}
+use Rattle.drives.specs.Reader.{join, shown, IsStep}
+use Rattle.drives.specs.Writer.{IsWritten}
+use Rattle.drives.specs.declared.reader.Reader.{Reader}
+use Rattle.drives.specs.declared.reader.Step.{Step}
+
+abbrev pub drives : Family
+drives = record {
+  Message = Message;
+  Takes = Takes;
+  wire = wire;
+  Known = Unit {0};
+  atStart = tt;
+  afterEvent = tt;
+  rule = rule;
+  Written = Written;
+  Writes = λ m. IsWritten (m .opening) (m .stationFirst) (m .stationSecond) (m .letter) (m .payload);
+  wrote = lengthOf;
+  State = Reader;
+  fresh = fresh;
+  Result = Step;
+  Steps = IsStep;
+  seen = seenBy join shown;
+}
+
+-- WHAT IS DEMANDED OF DRIVES: demands 1 to 3 of document 01, each a field of `Demands`, over the rule, the writer and the reader above
+abbrev pub Demanded : Type 0
+Demanded = Demands drives
+
+-- ---- its own
+
+-- a frame that is lost with a damage, from its opening byte through its EOT, 65,535 standing for that many bytes or more
+pub record LostWith (lost : ℕ) (frame : List ℕ) : Type 0 where
+  pub opening : ℕ
+  pub came : List ℕ
+  pub opens : opens opening ≡ true
+  pub is : frame ≡ opening ∷ (came ++ (0x04 ∷ []))
+  pub counted : lost ≡ min (length frame) 65535
+
+-- WHAT A DAMAGE LOSES: the bytes used up to then end with a frame that is lost, whatever came before
+abbrev pub Lost : Type 0
+Lost =
+    (bs : List ℕ) (n lost p : ℕ) → rule tt bs ≡ some (record { event = damage n lost; used = p })
+    → (frame : List ℕ) × LostWith lost frame × EndsWith frame (take p bs)

@@ -1,0 +1,11 @@
+// Pump drives: reader and writer.
+pub mod reader;
+pub mod writer;
+
+pub use reader::Answer;
+pub use reader::Header;
+pub use reader::Reader;
+pub use reader::Step;
+pub use reader::StepInPlace;
+pub use reader::step_in_place;
+pub use writer::write;
