@@ -1,8 +1,9 @@
 -- What an answer 0 of reader or writer says of each test, and the bytes that such an answer stands on. Assumes nothing.
 use Prim.Native.Nat.{ℕ, zero, suc, _+_, _*_, _/_, _%_, _≤_, _<_}
 use mathlib.Core.Path.{_≡_, refl, sym, ap, _∙_}
+use mathlib.Core.Logic.{_⊎_, inl, inr, _↔_}
 use mathlib.Core.List.{List, [], _∷_, _++_}
-use mathlib.Core.Bool.{Bool, true, false, cond, _&&_}
+use mathlib.Core.Bool.{Bool, true, false, cond, _&&_, _||_}
 use native.Mathlib.Nat.{add-zero, div-add-mod, div-eq-of-lt, mod-eq-of-lt}
 use native.Mathlib.Omega.{arith}
 use lib.ListN.{length, getD, take, drop, length-append, length-drop, take-append-drop}
@@ -74,26 +75,43 @@ tested s port count used e =
 
 -- ---- versions and ports
 
-by-range : (t : Bool) → eqb (cond t 1 0) (versionOf 1) ≡ true → t ≡ true
+-- a version is known by one of the two tests of its port: the port is 1 to 3, or it is 4
+by-tests : (t u : Bool) → (eqb (cond t 1 (cond u 2 0)) (versionOf 1) || eqb (cond t 1 (cond u 2 0)) (versionOf 4)) ≡ true → (t ≡ true) ⊎ (u ≡ true)
 unfolding versionOf
-by-range true e = refl
-by-range false e = e
+by-tests true u e = inl refl
+by-tests false true e = inr refl
+by-tests false false e = inl e
 
--- a port whose version is known is one of the three
-pub port-within : (port : ℕ) → known (versionOf port) ≡ true → (1 ≤ port) × (port ≤ 3)
+-- a port whose version is known is one of the four
+pub port-within : (port : ℕ) → known (versionOf port) ≡ true → (1 ≤ port) × (port ≤ 4)
 unfolding versionOf known
-port-within port e =
-    let range = both (leb 1 port) (leb port 3) (by-range (leb 1 port && leb port 3) e) in
-    (leb-true 1 port (range .0), leb-true port 3 (range .1))
+port-within port e = go (by-tests (leb 1 port && leb port 3) (eqb port 4) e)
+  where
+    go : ((leb 1 port && leb port 3) ≡ true) ⊎ (eqb port 4 ≡ true) → (1 ≤ port) × (port ≤ 4)
+    go (inl t) =
+        let range = both (leb 1 port) (leb port 3) t in
+        (leb-true 1 port (range .0), omega (arith, leb-true port 3 (range .1)))
+    go (inr u) = let last = eqb-true port 4 u in (omega arith, omega arith)
+
+-- version 2 is that of port 4, and of no other
+second : (t u : Bool) → _≡_ {A = ℕ} (cond t 1 (cond u 2 0)) 2 → u ≡ true
+second true u e = absurd (omega arith)
+second false true e = refl
+second false false e = absurd (omega arith)
+
+pub version-2 : (port : ℕ) → (versionOf port ≡ 2) ↔ (port ≡ 4)
+unfolding versionOf
+version-2 port = (λ e. eqb-true port 4 (second (leb 1 port && leb port 3) (eqb port 4) e), λ e. rw e refl)
 
 -- a version is less than 256
-small : (t : Bool) → cond t 1 0 < 256
-small true = omega arith
-small false = omega arith
+small : (t u : Bool) → cond t 1 (cond u 2 0) < 256
+small true u = omega arith
+small false true = omega arith
+small false false = omega arith
 
 pub version-small : (port : ℕ) → versionOf port < 256
 unfolding versionOf
-version-small port = small (leb 1 port && leb port 3)
+version-small port = small (leb 1 port && leb port 3) (eqb port 4)
 
 -- ---- bytes
 

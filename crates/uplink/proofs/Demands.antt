@@ -1,8 +1,10 @@
 -- The demands of specs/Demands.antt, each under its name. Assumes nothing.
-use Prim.Native.Nat.{ℕ, _+_}
+use Prim.Native.Nat.{ℕ, _+_, _/_, _%_}
 use mathlib.Core.Path.{_≡_, refl, sym, ap, _∙_}
 use mathlib.Core.Option.{some}
-use mathlib.Core.List.{List, [], _∷_, _++_}
+use mathlib.Core.Logic.{_↔_}
+use mathlib.Core.List.{List, [], _∷_, _++_, append-nil}
+use native.Mathlib.Nat.{mod-eq-of-lt}
 use mathlib.Core.Bool.{Bool, true, false}
 use native.Mathlib.Omega.{arith}
 use lib.ListN.{length, take, drop}
@@ -14,10 +16,10 @@ use Rattle.answers.specs.declared.Refusal.the-variants.{WrongPortOrCount}
 use Rattle.answers.specs.declared.Written.{Written}
 use Rattle.answers.specs.declared.Written.the-variants.{Done, Refused}
 use Rattle.answers.proofs.WriterPromise.{writes-frame, writes-nothing}
-use Rattle.uplink.specs.Packet.{known, takes, leadLength, packet, told, packetAt, written, IsWritten}
-use Rattle.uplink.specs.Demands.{ReadsBack, Begins, Accepts, Kept, Fits}
+use Rattle.uplink.specs.Packet.{versionOf, known, takes, leadLength, packet, told, packetAt, written, IsWritten}
+use Rattle.uplink.specs.Demands.{ReadsBack, Begins, Accepts, Kept, Fits, SecondVersion, WrittenForPort4, ReadForPort4}
 use Rattle.uplink.proofs.PacketTests.{counted-within, packet-length, by-writer}
-use Rattle.uplink.proofs.AcceptedIsWritten.{held, never, tested, port-within, begins, reads-packet}
+use Rattle.uplink.proofs.AcceptedIsWritten.{held, never, tested, port-within, version-small, version-2, begins, reads-packet}
 
 -- ---- what is written
 
@@ -77,6 +79,30 @@ fits s r port count used p e =
       first = ports .0;
       last = ports .1;
     }
+
+-- ---- which version it has
+
+two-bytes : {a b c d : ℕ} → a ∷ b ∷ [] ≡ c ∷ d ∷ [] → b ≡ d
+two-bytes e = cc
+
+-- what begins with a packet has version 2 exactly if its port is 4
+packet-version : (port : ℕ) (piece rest s : List ℕ) → s ≡ packet port piece ++ rest → SecondVersion s ↔ (port ≡ 4)
+packet-version port piece rest s e = (
+  λ v.
+      let low : versionOf port % 256 ≡ 2 = two-bytes (ap (slice 3 5) (sym e) ∙ v) in
+      version-2 port .0 (sym (mod-eq-of-lt (version-small port)) ∙ low),
+  λ p. let two = version-2 port .1 p in ap (slice 3 5) e ∙ ap (λ (v : ℕ). v / 256 ∷ v % 256 ∷ []) two,
+)
+
+pub written-for-port4 : WrittenForPort4
+written-for-port4 port piece lent later w n p e =
+    let t = put port piece lent later w n p e in
+    packet-version port piece [] (take n later) (t .front ∙ sym (append-nil (packet port piece)))
+
+pub read-for-port4 : ReadForPort4
+read-for-port4 s r port count used p e =
+    let b = accepts s r port count used p .0 e in
+    packet-version port (b .piece) (b .rest) s (b .bytes)
 
 -- ---- what is refused
 

@@ -2,7 +2,7 @@
 use Prim.Native.Nat.{ℕ, _+_, _-_, _≤_, _<_}
 use mathlib.Core.Path.{_≡_, refl, sym, ap, _∙_}
 use mathlib.Core.List.{List, [], _∷_, _++_, append-nil}
-use mathlib.Core.Bool.{Bool, true, false, cond, _&&_}
+use mathlib.Core.Bool.{Bool, true, false, _&&_}
 use native.Mathlib.Nat.{le-refl}
 use native.Mathlib.Omega.{arith}
 use lib.ListN.{length, take, drop, length-drop, drop-of-length-le}
@@ -22,14 +22,6 @@ use Rattle.uplink.specs.declared.Received.the-variants.{Packet, Refused}
 use Rattle.uplink.specs.Packet.{versionOf, known, counted, leadLength, pieceMax, lead, packet, marked, versionIn, portIn, countIn, carried, packetAt, takes, written, IsRead, IsWritten}
 
 -- ---- tests
-
-pub by-true : {A : Type 0} (t : Bool) (x y : A) → t ≡ true → x ≡ cond t x y
-by-true true x y e = refl
-by-true false x y e = let z : false ≡ true = e in cc
-
-pub by-false : {A : Type 0} (t : Bool) (x y : A) → t ≡ false → y ≡ cond t x y
-by-false false x y e = refl
-by-false true x y e = let z : true ≡ false = e in cc
 
 pub counted-within : (count : ℕ) → counted count ≡ true → (1 ≤ count) × (count ≤ pieceMax)
 unfolding counted

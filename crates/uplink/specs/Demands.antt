@@ -54,7 +54,7 @@ pub record Within (s : List ℕ) (port count used : ℕ) : Type 0 where
   pub some : 1 ≤ count
   pub most : count ≤ pieceMax
   pub first : 1 ≤ port
-  pub last : port ≤ 3
+  pub last : port ≤ 4
 
 -- The bytes used are there, and count and port are in range.
 abbrev pub Fits : Type 0
@@ -63,3 +63,23 @@ Fits =
     → IsRead s r
     → told r ≡ answer 0 (port ∷ count ∷ used ∷ [])
     → Within s port count used
+
+-- the two bytes behind the mark are version 00 02
+abbrev pub SecondVersion : List ℕ → Type 0
+SecondVersion s = slice 3 5 s ≡ 0x00 ∷ 0x02 ∷ []
+
+-- Packets for port 4, and only those, are written
+abbrev pub WrittenForPort4 : Type 0
+WrittenForPort4 =
+    (port : ℕ) (piece lent later : List ℕ) (w : Written) (n : ℕ)
+    → IsWritten port piece lent w later
+    → Written.told w ≡ answer 0 (n ∷ [])
+    → SecondVersion (take n later) ↔ (port ≡ 4)
+
+-- and read with version 00 02.
+abbrev pub ReadForPort4 : Type 0
+ReadForPort4 =
+    (s : List ℕ) (r : Received) (port count used : ℕ)
+    → IsRead s r
+    → told r ≡ answer 0 (port ∷ count ∷ used ∷ [])
+    → SecondVersion s ↔ (port ≡ 4)

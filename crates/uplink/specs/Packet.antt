@@ -1,8 +1,8 @@
--- The uplink packet, in document 01's words and order: its bytes, its tests, and what reading and writing promise.
+-- The uplink packet, in document 01's words and order, with port 4 of document 02, Req 04: its bytes, its tests, and what reading and writing promise.
 use Prim.Native.Nat.{ℕ, _+_, _*_, _/_, _%_}
 use mathlib.Core.Path.{_≡_}
 use mathlib.Core.List.{List, [], _∷_, _++_}
-use mathlib.Core.Bool.{Bool, false, cond, _&&_}
+use mathlib.Core.Bool.{Bool, false, cond, _&&_, _||_}
 use lib.ListN.{length, getD}
 use lib.Dec.{leb, eqb}
 use Rattle.numbers.specs.Texts.{text}
@@ -19,14 +19,15 @@ use Rattle.uplink.specs.declared.Received.the-variants.{Packet, Refused}
 abbrev pub mark : List ℕ
 mark = text "SBR"
 
--- version 00 01 for the ports 1 to 3: which version carries which port is said here alone. 0 is no version.
+-- version 00 01 for the ports 1 to 3; packets for port 4, and only those, are written and read with version 00 02. Which version carries
+-- which port is said here alone. 0 is no version.
 -- The table of ports stands above this crate; that each port which a version carries has a row there is shown in `listing_whole`.
 unfoldable pub versionOf : ℕ → ℕ
-versionOf port = cond (leb 1 port && leb port 3) 1 0
+versionOf port = cond (leb 1 port && leb port 3) 1 (cond (eqb port 4) 2 0)
 
--- a version that carries some port
+-- a version that carries some port: that of the ports 1 to 3, or that of port 4
 unfoldable pub known : ℕ → Bool
-known version = eqb version (versionOf 1)
+known version = eqb version (versionOf 1) || eqb version (versionOf 4)
 
 -- count 1 to 240,
 abbrev pub pieceMax : ℕ

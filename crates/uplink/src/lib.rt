@@ -26,18 +26,21 @@ pub enum Received {
 }
 
 // The version that carries a port, 0 where none does. No other place, in reader or writer, says which version goes with
-// which port.
+// which port: 00 01 with the ports 1 to 3, and 00 02 with port 4 alone.
 fn version_of(port: u8) -> u16
     ensures { λ v. ⌜ v ≡ versionOf port ⌝ }
 {
-    if (1 <= port) & (port <= 3) { 1 } else { 0 }
+    if (1 <= port) & (port <= 3) {
+        return 1;
+    }
+    if port == 4 { 2 } else { 0 }
 }
 
-// Whether a version carries any port. 0 does not.
+// Whether a version carries any port: it is that of port 1 or that of port 4. 0 does not.
 fn known(version: u16) -> bool
     ensures { λ r. ⌜ r ≡ known version ⌝ }
 {
-    version == version_of(1)
+    (version == version_of(1)) | (version == version_of(4))
 }
 
 // Whether a packet's piece may have so many bytes.
