@@ -23,7 +23,7 @@ use Rattle.ports.specs.Demands.{Apart, PortCall, AllowedOn, OwnCalls, en
 use Rattle.ports.specs.declared.Ports.{Ports}
 use Rattle.ports.specs.declared.Step.{Step}
 use Rattle.ports.specs.declared.Answer.{Answer}
-use Rattle.ports.specs.declared.Answer.the-variants.{Done, ComLynx, Eversolar, Fronius, Damaged, Refused}
+use Rattle.ports.specs.declared.Answer.the-variants.{Done, ComLynx, Eversolar, Fronius, Drives, Damaged, Refused}
 use Rattle.ports.proofs.TableLaws.{some-one, same-seat, no-none, within, outside}
 use Rattle.ports.proofs.EveryRow.{factsOf}
 
@@ -44,6 +44,7 @@ refused-12 Done h = absurd (omega arith)
 refused-12 (ComLynx m) h = absurd (omega arith)
 refused-12 (Eversolar m) h = absurd (omega arith)
 refused-12 (Fronius m) h = absurd (omega arith)
+refused-12 (Drives m) h = absurd (omega arith)
 refused-12 (Damaged what lost) h = let twelve : _≡_ {A = ℕ} 0 1 = rw h at (damages .once what) in absurd (omega arith)
 refused-12 (Refused why) h = (why, refl)
 

@@ -35,17 +35,25 @@ use Rattle.fronius.specs.declared.reader.Answer as FroniusAnswer
 use Rattle.fronius.specs.declared.reader.Answer.the-variants as OfFronius
 use Rattle.fronius.proofs.FamilyFacts as FroniusFacts
 use Rattle.fronius.proofs.One as FroniusOne
-use Rattle.ports.specs.Ports.{Seat, comlynxSeat, eversolarSeat, froniusSeat, comlynxAnswer, eversolarAnswer, froniusAnswer, number as answerNumber, seats, portMost, sumOver, rowOf, seatAt}
+use Rattle.drives.specs.Machine as DrivesMachine
+use Rattle.drives.specs.Reader as DrivesReader
+use Rattle.drives.specs.declared.reader.Reader as Drives
+use Rattle.drives.specs.declared.reader.Answer as DrivesAnswer
+use Rattle.drives.specs.declared.reader.Answer.the-variants as OfDrives
+use Rattle.drives.proofs.FamilyFacts as DrivesFacts
+use Rattle.drives.proofs.One as DrivesOne
+use Rattle.ports.specs.Ports.{Seat, comlynxSeat, eversolarSeat, froniusSeat, drivesSeat, comlynxAnswer, eversolarAnswer, froniusAnswer, drivesAnswer, number as answerNumber, seats, portMost, sumOver, rowOf, seatAt}
 use Rattle.ports.specs.declared.Ports.{Ports}
 use Rattle.ports.specs.declared.Answer.the-variants.{Refused}
 
 -- ---- every row
 
 -- what holds of each row holds of every row
-pub each-seat : (P : Seat → Type 0) → P comlynxSeat → P eversolarSeat → P froniusSeat → (seat : Seat) → P seat
-each-seat P a b c comlynxSeat = a
-each-seat P a b c eversolarSeat = b
-each-seat P a b c froniusSeat = c
+pub each-seat : (P : Seat → Type 0) → P comlynxSeat → P eversolarSeat → P froniusSeat → P drivesSeat → (seat : Seat) → P seat
+each-seat P a b c d comlynxSeat = a
+each-seat P a b c d eversolarSeat = b
+each-seat P a b c d froniusSeat = c
+each-seat P a b c d drivesSeat = d
 
 -- ---- what is shown of a row
 
@@ -97,7 +105,7 @@ comlynx-row = record {
   got = λ ports s. refl;
   puts-own = λ ports. refl;
   puts-again = λ ports s t. refl;
-  others = each-seat _ (λ ports s n. absurd (n refl)) (λ ports s n. refl) (λ ports s n. refl);
+  others = each-seat _ (λ ports s n. absurd (n refl)) (λ ports s n. refl) (λ ports s n. refl) (λ ports s n. refl);
   facts = ComlynxFacts.facts;
   machine = ComlynxFacts.machine;
   ranges = ComlynxFacts.ranges;
@@ -133,7 +141,7 @@ eversolar-row = record {
   got = λ ports s. refl;
   puts-own = λ ports. refl;
   puts-again = λ ports s t. refl;
-  others = each-seat _ (λ ports s n. refl) (λ ports s n. absurd (n refl)) (λ ports s n. refl);
+  others = each-seat _ (λ ports s n. refl) (λ ports s n. absurd (n refl)) (λ ports s n. refl) (λ ports s n. refl);
   facts = EversolarFacts.facts;
   machine = EversolarFacts.machine;
   ranges = EversolarFacts.ranges;
@@ -169,7 +177,7 @@ fronius-row = record {
   got = λ ports s. refl;
   puts-own = λ ports. refl;
   puts-again = λ ports s t. refl;
-  others = each-seat _ (λ ports s n. refl) (λ ports s n. refl) (λ ports s n. absurd (n refl));
+  others = each-seat _ (λ ports s n. refl) (λ ports s n. refl) (λ ports s n. absurd (n refl)) (λ ports s n. refl);
   facts = FroniusFacts.facts;
   machine = FroniusFacts.machine;
   ranges = FroniusFacts.ranges;
@@ -181,23 +189,61 @@ fronius-row = record {
   refusal = λ r. fronius-refusal (r .answer);
 }
 
+-- ---- Drives
+
+drives-number : (a : DrivesAnswer.Answer) → answerNumber (drivesAnswer a) ≡ DrivesReader.number a
+drives-number OfDrives.Done = refl
+drives-number (OfDrives.Message h) = refl
+drives-number (OfDrives.Damaged what lost) = refl
+drives-number (OfDrives.Refused why) = refl
+
+drives-refusal : (a : DrivesAnswer.Answer) (later : List ℕ) (why : Refusal) → drivesAnswer a ≡ Refused why
+    → retold (λ h. DrivesReader.join h later) (DrivesReader.told a) ≡ refuses (refusalNumber why)
+drives-refusal OfDrives.Done later why e = zero-is-one cc
+drives-refusal (OfDrives.Message m) later why e = zero-is-one cc
+drives-refusal (OfDrives.Damaged what lost) later why e = zero-is-one cc
+drives-refusal (OfDrives.Refused reason) later why e = let same : reason ≡ why = cc in ap (λ (w : Refusal). refuses (refusalNumber w)) same
+
+drives-row : RowFacts drivesSeat
+unfolding seatAt DrivesMachine.inRange
+drives-row = record {
+  own-seat = refl;
+  span = omega arith;
+  once = refl;
+  got = λ ports s. refl;
+  puts-own = λ ports. refl;
+  puts-again = λ ports s t. refl;
+  others = each-seat _ (λ ports s n. refl) (λ ports s n. refl) (λ ports s n. refl) (λ ports s n. absurd (n refl));
+  facts = DrivesFacts.facts;
+  machine = DrivesFacts.machine;
+  ranges = DrivesFacts.ranges;
+  fresh-in-range = refl;
+  one = DrivesOne.step-one;
+  reader = λ r later. refl;
+  used = λ r later. refl;
+  number = λ r later. drives-number (r .answer);
+  refusal = λ r. drives-refusal (r .answer);
+}
+
 -- ---- all of them together
 
 pub factsOf : (seat : Seat) → RowFacts seat
 factsOf comlynxSeat = comlynx-row
 factsOf eversolarSeat = eversolar-row
 factsOf froniusSeat = fronius-row
+factsOf drivesSeat = drives-row
 
 -- the ports are their readers, and nothing else
-together : {a b : Comlynx.Reader} {c d : Eversolar.Reader} {e f : Fronius.Reader} → a ≡ b → c ≡ d → e ≡ f
-    → _≡_ {A = Ports} (record { comlynx = a; eversolar = c; fronius = e }) (record { comlynx = b; eversolar = d; fronius = f })
-together {a} {b} {c} {d} {e} {f} x y z =
-    ap {B = Ports} (λ (v : Comlynx.Reader). record { comlynx = v; eversolar = c; fronius = e }) x
-    ∙ ap {B = Ports} (λ (v : Eversolar.Reader). record { comlynx = b; eversolar = v; fronius = e }) y
-    ∙ ap {B = Ports} (λ (v : Fronius.Reader). record { comlynx = b; eversolar = d; fronius = v }) z
+together : {a b : Comlynx.Reader} {c d : Eversolar.Reader} {e f : Fronius.Reader} {g h : Drives.Reader} → a ≡ b → c ≡ d → e ≡ f → g ≡ h
+    → _≡_ {A = Ports} (record { comlynx = a; eversolar = c; fronius = e; drives = g }) (record { comlynx = b; eversolar = d; fronius = f; drives = h })
+together {a} {b} {c} {d} {e} {f} {g} {h} x y z w =
+    ap {B = Ports} (λ (v : Comlynx.Reader). record { comlynx = v; eversolar = c; fronius = e; drives = g }) x
+    ∙ ap {B = Ports} (λ (v : Eversolar.Reader). record { comlynx = b; eversolar = v; fronius = e; drives = g }) y
+    ∙ ap {B = Ports} (λ (v : Fronius.Reader). record { comlynx = b; eversolar = d; fronius = v; drives = g }) z
+    ∙ ap {B = Ports} (λ (v : Drives.Reader). record { comlynx = b; eversolar = d; fronius = f; drives = v }) w
 
 pub whole : (a b : Ports) → ((seat : Seat) → rowOf seat .get a ≡ rowOf seat .get b) → a ≡ b
-whole a b same = together (same comlynxSeat) (same eversolarSeat) (same froniusSeat)
+whole a b same = together (same comlynxSeat) (same eversolarSeat) (same froniusSeat) (same drivesSeat)
 
 -- a port that has a row
 abbrev pub OnSeat : ℕ → Type 0
@@ -209,4 +255,5 @@ ported zero h k = absurd (omega arith)
 ported (suc zero) h k = (comlynxSeat, refl)
 ported (suc (suc zero)) h k = (eversolarSeat, refl)
 ported (suc (suc (suc zero))) h k = (froniusSeat, refl)
-ported (suc (suc (suc (suc port)))) h k = absurd (omega arith)
+ported (suc (suc (suc (suc zero)))) h k = (drivesSeat, refl)
+ported (suc (suc (suc (suc (suc port))))) h k = absurd (omega arith)

@@ -60,7 +60,8 @@ EachAlone =
 
 -- ---- refusals
 
--- after one the readers are unchanged, nothing is used, and the lent buffer holds what it held
+-- after one the readers are unchanged, nothing is used, and the lent buffer holds what it held. An answer is a refusal by its case, not by
+-- its number: 21 is a damage's number too, and a damage uses bytes
 abbrev pub Kept : Type 0
 Kept =
     (ports : Ports) (port : ℕ) (piece lent later : List ℕ) (r : Step) (why : Refusal) → IsStep ports port piece lent r later

@@ -27,12 +27,17 @@ use Rattle.fronius.specs.Reader as FroniusReader
 use Rattle.fronius.specs.Demands.{fronius}
 use Rattle.fronius.specs.declared.reader.Answer as FroniusAnswer
 use Rattle.fronius.specs.declared.reader.Answer.the-variants as OfFronius
+use Rattle.drives.specs.Machine as DrivesMachine
+use Rattle.drives.specs.Reader as DrivesReader
+use Rattle.drives.specs.Demands.{drives}
+use Rattle.drives.specs.declared.reader.Answer as DrivesAnswer
+use Rattle.drives.specs.declared.reader.Answer.the-variants as OfDrives
 use Rattle.listing_text.specs.Lines.{Shown}
-use Rattle.ports.specs.Shown.{showComlynx, showEversolar, showFronius}
+use Rattle.ports.specs.Shown.{showComlynx, showEversolar, showFronius, showDrives}
 use Rattle.ports.specs.declared.Ports.{Ports}
 use Rattle.ports.specs.declared.Step.{Step}
 use Rattle.ports.specs.declared.Answer.{Answer}
-use Rattle.ports.specs.declared.Answer.the-variants.{Done, ComLynx, Eversolar, Fronius, Damaged, Refused}
+use Rattle.ports.specs.declared.Answer.the-variants.{Done, ComLynx, Eversolar, Fronius, Drives, Damaged, Refused}
 
 -- ---- a family's answers as answers of the ports: only a message is told by another name, its family's
 
@@ -54,12 +59,20 @@ froniusAnswer (OfFronius.Message h) = Fronius h
 froniusAnswer (OfFronius.Damaged what lost) = Damaged what lost
 froniusAnswer (OfFronius.Refused why) = Refused why
 
--- document 01's table of answers, case by case: the number of each
+abbrev pub drivesAnswer : DrivesAnswer.Answer → Answer
+drivesAnswer OfDrives.Done = Done
+drivesAnswer (OfDrives.Message h) = Drives h
+drivesAnswer (OfDrives.Damaged what lost) = Damaged what lost
+drivesAnswer (OfDrives.Refused why) = Refused why
+
+-- the table of answers, document 01's with 21 of document 02, case by case: the number of each. A damage and a refusal may share a number, 21;
+-- the case tells which of them it is
 abbrev pub number : Answer → ℕ
 number Done = 0
 number (ComLynx h) = 1
 number (Eversolar h) = 1
 number (Fronius h) = 1
+number (Drives h) = 1
 number (Damaged what lost) = Damage.number what
 number (Refused why) = Refusal.number why
 
@@ -69,14 +82,15 @@ pub data Seat : Type 0 where
   comlynxSeat : Seat
   eversolarSeat : Seat
   froniusSeat : Seat
+  drivesSeat : Seat
 
 -- all of them
 abbrev pub seats : List Seat
-seats = comlynxSeat ∷ eversolarSeat ∷ froniusSeat ∷ []
+seats = comlynxSeat ∷ eversolarSeat ∷ froniusSeat ∷ drivesSeat ∷ []
 
 -- the ports are 1 to this
 abbrev pub portMost : ℕ
-portMost = 3
+portMost = 4
 
 -- a number for each row, summed
 abbrev pub sumOver : List Seat → (Seat → ℕ) → ℕ
@@ -107,7 +121,7 @@ rowOf comlynxSeat = record {
   inRange = ComlynxReader.inRange;
   show = showComlynx;
   get = λ ports. ports .comlynx;
-  put = λ ports s. record { comlynx = s; eversolar = ports .eversolar; fronius = ports .fronius };
+  put = λ ports s. record { comlynx = s; eversolar = ports .eversolar; fronius = ports .fronius; drives = ports .drives };
   reader = λ r. r .reader;
   answer = λ r. comlynxAnswer (r .answer);
   used = λ r. r .used;
@@ -119,7 +133,7 @@ rowOf eversolarSeat = record {
   inRange = EversolarReader.inRange;
   show = showEversolar;
   get = λ ports. ports .eversolar;
-  put = λ ports s. record { comlynx = ports .comlynx; eversolar = s; fronius = ports .fronius };
+  put = λ ports s. record { comlynx = ports .comlynx; eversolar = s; fronius = ports .fronius; drives = ports .drives };
   reader = λ r. r .reader;
   answer = λ r. eversolarAnswer (r .answer);
   used = λ r. r .used;
@@ -131,9 +145,21 @@ rowOf froniusSeat = record {
   inRange = FroniusReader.inRange;
   show = showFronius;
   get = λ ports. ports .fronius;
-  put = λ ports s. record { comlynx = ports .comlynx; eversolar = ports .eversolar; fronius = s };
+  put = λ ports s. record { comlynx = ports .comlynx; eversolar = ports .eversolar; fronius = s; drives = ports .drives };
   reader = λ r. r .reader;
   answer = λ r. froniusAnswer (r .answer);
+  used = λ r. r .used;
+}
+rowOf drivesSeat = record {
+  port = 4;
+  family = drives;
+  next = DrivesMachine.next;
+  inRange = DrivesReader.inRange;
+  show = showDrives;
+  get = λ ports. ports .drives;
+  put = λ ports s. record { comlynx = ports .comlynx; eversolar = ports .eversolar; fronius = ports .fronius; drives = s };
+  reader = λ r. r .reader;
+  answer = λ r. drivesAnswer (r .answer);
   used = λ r. r .used;
 }
 

@@ -4,6 +4,7 @@ use mathlib.Core.List.{List, [], _∷_}
 use Rattle.comlynx.specs.Wire as Comlynx
 use Rattle.eversolar.specs.Wire as Eversolar
 use Rattle.fronius.specs.Wire as Fronius
+use Rattle.drives.specs.Wire as Drives
 use Rattle.listing_text.specs.Lines.{Shown}
 
 abbrev pub word : ℕ → List ℕ
@@ -24,3 +25,7 @@ showEversolar m = record {
 -- Fronius has `-` for from, and device with number for to
 abbrev pub showFronius : Fronius.Message → Shown
 showFronius m = record { from = []; to = m .device ∷ m .number ∷ []; code = m .command ∷ []; payload = m .payload }
+
+-- Drives have the opening byte for from, the station's characters for to, and the letter's code for code
+abbrev pub showDrives : Drives.Message → Shown
+showDrives m = record { from = m .opening ∷ []; to = m .stationFirst ∷ m .stationSecond ∷ []; code = m .letter ∷ []; payload = m .payload }

@@ -1,7 +1,7 @@
 // The readers of all ports side by side, one a port. A call goes to the reader of its port and leaves the others as they are.
 //
 // `Ports::step` is for hosts that hold all readers by value and are handed a port and a piece, as `test_published` and `test_probe_listing` do here.
-// Such a call copies all three readers, some 700 bytes. So `listing`, which calls often, chooses the port itself: it takes the reader out once
+// Such a call copies all four readers, some 770 bytes. So `listing`, which calls often, chooses the port itself: it takes the reader out once
 // a packet, calls that reader alone, and puts it back.
 //
 // `Ports::step` goes by each reader's `step`. With `step_in_place` it would copy the held bytes itself: the prover does not cover that an array is
@@ -9,7 +9,7 @@
 use answers::Damage;
 use answers::Refusal;
 ghost use mathlib.Core.Path.{_≡_};
-ghost use Rattle.ports.specs.Ports.{comlynxAnswer, eversolarAnswer, froniusAnswer, IsFresh, IsStep};
+ghost use Rattle.ports.specs.Ports.{comlynxAnswer, eversolarAnswer, froniusAnswer, drivesAnswer, IsFresh, IsStep};
 
 // Which port has which family.
 pub const COMLYNX: u8 = 1;
@@ -17,6 +17,8 @@ pub const COMLYNX: u8 = 1;
 pub const EVERSOLAR: u8 = 2;
 
 pub const FRONIUS: u8 = 3;
+
+pub const DRIVES: u8 = 4;
 
 // What the bytes read so far on each port have led to.
 pub struct Ports {
@@ -26,6 +28,8 @@ pub struct Ports {
     pub eversolar: eversolar::Reader,
     // port 3
     pub fronius: fronius::Reader,
+    // port 4
+    pub drives: drives::Reader,
 }
 
 // A message is told by its family's header; its data stand at the front of the lent buffer.
@@ -35,6 +39,7 @@ pub enum Answer {
     ComLynx(comlynx::Header),
     Eversolar(eversolar::Header),
     Fronius(fronius::Header),
+    Drives(drives::Header),
     // with how many bytes were lost
     Damaged { what: Damage, lost: u16 },
     Refused(Refusal),
@@ -81,6 +86,17 @@ fn fronius_answer(answer: fronius::Answer) -> Answer
     }
 }
 
+fn drives_answer(answer: drives::Answer) -> Answer
+    ensures { λ r. ⌜ r ≡ drivesAnswer answer ⌝ }
+{
+    match answer {
+        drives::Answer::Done => Answer::Done,
+        drives::Answer::Message(h) => Answer::Drives(h),
+        drives::Answer::Damaged { what, lost } => Answer::Damaged { what, lost },
+        drives::Answer::Refused(why) => Answer::Refused(why),
+    }
+}
+
 impl Ports {
     // Every reader before its first byte.
     pub fn fresh() -> Self
@@ -89,15 +105,17 @@ impl Ports {
         let first = comlynx::Reader::fresh();
         let second = eversolar::Reader::fresh();
         let third = fronius::Reader::fresh();
+        let fourth = drives::Reader::fresh();
         Ports {
             comlynx: first,
             eversolar: second,
             fronius: third,
+            drives: fourth,
         }
     }
 
     // One call of that port's reader. A port that has none is refused, and nothing is used or changed. All in one function: with one for
-    // each family every call copies all three readers once more.
+    // each family every call copies all four readers once more.
     pub fn step(mut self, port: u8, piece: &[u8], lent: &mut [u8]) -> Step
         ensures { λ r. ⌜ IsStep self port (now (piece .entry)) (now (lent .entry)) r (now (lent .exit)) ⌝ }
     {
@@ -131,6 +149,18 @@ impl Ports {
             self.fronius = next;
             let told = s.answer;
             let answer = fronius_answer(told);
+            return Step {
+                ports: self,
+                answer,
+                used: s.used,
+            };
+        }
+        if port == DRIVES {
+            let s = self.drives.step(piece, lent);
+            let next = s.reader;
+            self.drives = next;
+            let told = s.answer;
+            let answer = drives_answer(told);
             return Step {
                 ports: self,
                 answer,

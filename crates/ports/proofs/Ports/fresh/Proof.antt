@@ -1,4 +1,4 @@
--- `Ports::fresh`: each of the three is its family's.
+-- `Ports::fresh`: each of the four is its family's.
 -- Assumes nothing.
 use borrow.Author.Needs.{needs}
 use Rattle.ports.proofs.EveryRow.{each-seat}
@@ -14,8 +14,11 @@ fresh-requires-2 c κs = search needs
 fresh-requires-3 : tie.Need-fresh-requires-3
 fresh-requires-3 c κs = search needs
 
+fresh-requires-4 : tie.Need-fresh-requires-4
+fresh-requires-4 c κs = search needs
+
 returns : tie.Need-returns
-returns c = each-seat _ (c .before .before .fresh .ensures) (c .before .fresh2 .ensures) (c .fresh3 .ensures)
+returns c = each-seat _ (c .before .before .before .fresh .ensures) (c .before .before .fresh2 .ensures) (c .before .fresh3 .ensures) (c .fresh4 .ensures)
 
 pub fresh-spec : {M : Type 1} → statement M
-fresh-spec = tie.close (tie.spec fresh-requires fresh-requires-2 fresh-requires-3 returns)
+fresh-spec = tie.close (tie.spec fresh-requires fresh-requires-2 fresh-requires-3 fresh-requires-4 returns)

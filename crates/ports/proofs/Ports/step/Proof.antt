@@ -3,7 +3,7 @@
 use mathlib.Core.Path.{refl, ap, _∙_}
 use mathlib.Core.List.{[]}
 use borrow.Author.Needs.{needs}
-use Rattle.ports.specs.Ports.{comlynxSeat, eversolarSeat, froniusSeat, number}
+use Rattle.ports.specs.Ports.{comlynxSeat, eversolarSeat, froniusSeat, drivesSeat, number}
 use Rattle.ports.proofs.EveryRow.{each-seat, factsOf}
 use Rattle.ports.proofs.TableLaws.{answered, seat-at, no-seat}
 use Rattle.ports.proofs.Ports.step.Statement.{statement}
@@ -51,8 +51,22 @@ returns-3 c =
     let s = c .before .before .before .before in
     rw (seat-at froniusSeat (s .before .before .if3 .taken)) (s .step3 .result, s .step3 .ensures, answered _ _ (c .fronius-answer .ensures), ap number (c .fronius-answer .ensures) ∙ factsOf froniusSeat .number (s .step3 .result) [])
 
+step-requires-4 : tie.Need-step-requires-4
+step-requires-4 c κs = search needs
+
+drives-answer-requires : tie.Need-drives-answer-requires
+drives-answer-requires c κs = search needs
+
+same-length-4 : tie.Need-same-length-4
+same-length-4 c = search needs
+
 returns-4 : tie.Need-returns-4
-returns-4 c = rw (no-seat _ (each-seat _ (c .before .before .if1 .left) (c .before .if2 .left) (c .if3 .left))) (refl, refl, refl)
+returns-4 c =
+    let s = c .before .before .before .before in
+    rw (seat-at drivesSeat (s .before .before .if4 .taken)) (s .step4 .result, s .step4 .ensures, answered _ _ (c .drives-answer .ensures), ap number (c .drives-answer .ensures) ∙ factsOf drivesSeat .number (s .step4 .result) [])
+
+returns-5 : tie.Need-returns-5
+returns-5 c = rw (no-seat _ (each-seat _ (c .before .before .before .if1 .left) (c .before .before .if2 .left) (c .before .if3 .left) (c .if4 .left))) (refl, refl, refl)
 
 pub step-spec : {M : Type 1} → statement M
 step-spec =
@@ -70,4 +84,8 @@ step-spec =
     fronius-answer-requires
     same-length-3
     returns-3
-    returns-4)
+    step-requires-4
+    drives-answer-requires
+    same-length-4
+    returns-4
+    returns-5)
