@@ -26,9 +26,9 @@ message-most port m h =
     omega
     (arith, message-length port m, decimal-8 port h, width-most (length (m .from)), width-most (length (m .to)), width-most (length (m .code)), width-most (length (m .payload)))
 
--- of a port and a number of one digit
-pub damage-five : (port number lost : ℕ) → port < 10 → number < 10 → length (damageLine port number lost) ≡ 5 + length (decimal lost)
-damage-five port number lost h k = omega (arith, damage-length port number lost, decimal-10 port h, decimal-10 number k)
+-- of a port of one digit and a number of 8 bits
+pub damage-most : (port number lost : ℕ) → port < 10 → number < 256 → length (damageLine port number lost) ≤ 7 + length (decimal lost)
+damage-most port number lost h k = omega (arith, damage-length port number lost, decimal-10 port h, decimal-8 number k)
 
 pub stop-most : (number : ℕ) → number < 256 → length (stopLine number) ≤ 9
 stop-most number h = omega (arith, stop-length number, decimal-8 number h)

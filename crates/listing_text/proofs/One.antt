@@ -20,6 +20,9 @@ message-2-2-2-one port m = writes-one (tooLong m) (messageLine port m)
 pub message-0-2-1-one : (port : ℕ) (m : Shown) (lent a b : List ℕ) (v w : Written) → IsMessage port m lent v a → IsMessage port m lent w b → (v ≡ w) × (a ≡ b)
 message-0-2-1-one port m = writes-one (tooLong m) (messageLine port m)
 
+pub message-1-2-1-one : (port : ℕ) (m : Shown) (lent a b : List ℕ) (v w : Written) → IsMessage port m lent v a → IsMessage port m lent w b → (v ≡ w) × (a ≡ b)
+message-1-2-1-one port m = writes-one (tooLong m) (messageLine port m)
+
 pub damage-one : (port number lost : ℕ) (lent a b : List ℕ) (v w : Written) → IsDamage port number lost lent v a → IsDamage port number lost lent w b
     → (v ≡ w) × (a ≡ b)
 damage-one port number lost = writes-one false (damageLine port number lost)

@@ -42,7 +42,7 @@ refusedFor tooLong = cond tooLong (Refused TooLong) (Refused NoRoom)
 abbrev pub start : (port : ℕ) → List ℕ
 start port = decimal port ++ (32 ∷ 49 ∷ 32 ∷ [])
 
--- `put_2_2`, `put_0_2`
+-- `put_2_2`, `put_0_2`, `put_1_2`
 abbrev pub beforeCode : (port : ℕ) → (from to : List ℕ) → List ℕ
 beforeCode port from to = (start port ++ (field from ++ (32 ∷ []))) ++ (field to ++ (32 ∷ []))
 

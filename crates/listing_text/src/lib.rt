@@ -82,7 +82,7 @@ fn put_start(port: u8, lent: &mut [u8]) -> usize
     p + 2
 }
 
-// What stands before the code: from and to have two bytes each, or from has none and to has two.
+// What stands before the code: from and to have two bytes each, or from has none and to has two, or from has one and to has two.
 fn put_2_2(port: u8, from1: u8, from2: u8, to1: u8, to2: u8, lent: &mut [u8]) -> usize
     requires { ⌜ length (decimal port) + 13 ≤ length (now lent) ⌝ }
     ensures { λ r. ⌜ Put (now (lent .entry)) 0 (beforeCode port (from1 ∷ from2 ∷ []) (to1 ∷ to2 ∷ [])) r (now (lent .exit)) ⌝ }
@@ -100,6 +100,16 @@ fn put_0_2(port: u8, to1: u8, to2: u8, lent: &mut [u8]) -> usize
 {
     let p = put_start(port, lent);
     let q = put_none(b' ', lent, p);
+    put_two(to1, to2, lent, q)
+}
+
+fn put_1_2(port: u8, from: u8, to1: u8, to2: u8, lent: &mut [u8]) -> usize
+    requires { ⌜ length (decimal port) + 11 ≤ length (now lent) ⌝ }
+    ensures { λ r. ⌜ Put (now (lent .entry)) 0 (beforeCode port (from ∷ []) (to1 ∷ to2 ∷ [])) r (now (lent .exit)) ⌝ }
+    ensures { λ r. ⌜ r ≡ length (decimal port) + 11 ⌝ }
+{
+    let p = put_start(port, lent);
+    let q = put_one(from, lent, p);
     put_two(to1, to2, lent, q)
 }
 
@@ -162,6 +172,26 @@ pub fn message_0_2_1(
         return refusal(payload.len());
     }
     let p = put_0_2(port, to1, to2, lent);
+    let q = put_one(code, lent, p);
+    Written::Done(put_field(payload, b'\n', lent, q))
+}
+
+// The same where they have 1, 2 and 1.
+pub fn message_1_2_1(
+    port: u8,
+    from: u8,
+    to1: u8,
+    to2: u8,
+    code: u8,
+    payload: &[u8],
+    lent: &mut [u8],
+) -> Written
+    ensures { λ w. ⌜ IsMessage port (shown (from ∷ []) (to1 ∷ to2 ∷ []) (code ∷ []) (now (payload .entry))) (now (lent .entry)) w (now (lent .exit)) ⌝ }
+{
+    if is_refused(port, 8, payload.len(), lent.len()) {
+        return refusal(payload.len());
+    }
+    let p = put_1_2(port, from, to1, to2, lent);
     let q = put_one(code, lent, p);
     Written::Done(put_field(payload, b'\n', lent, q))
 }
