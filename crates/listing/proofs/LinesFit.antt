@@ -1,7 +1,7 @@
 -- That the lines of a packet fit into what is lent: a weight. A byte held may be printed later, as two digits, and the number of bytes that came as
 -- its digits; a line is no longer than what was held for it before and 20 for each byte that came.
 -- Assumes nothing.
-use Prim.Native.Nat.{ℕ, _+_, _-_, _*_, _≤_, _<_}
+use Prim.Native.Nat.{ℕ, min, _+_, _-_, _*_, _≤_, _<_}
 use mathlib.Core.Path.{_≡_, refl}
 use mathlib.Core.Bool.{Bool, true, false, cond, _&&_}
 use mathlib.Core.Option.{Option, none, some}
@@ -10,6 +10,7 @@ use lib.ListN.{length, take, drop, getD, length-take, length-drop}
 use lib.Dec.{eqb, ltb, leb}
 use borrow.Author.Tests.{ltb-true, ltb-false, leb-true}
 use native.Mathlib.Omega.{arith}
+use Rattle.answers.specs.Answer.{need}
 use Rattle.stream.specs.Event.{Event, message, damage}
 use Rattle.stream.specs.Pieces.{Moved, settle, scan}
 use Rattle.comlynx.specs.Wire as ComlynxWire
@@ -31,10 +32,17 @@ use Rattle.fronius.specs.Machine as Fronius
 use Rattle.fronius.specs.Reader as FroniusReader
 use Rattle.fronius.specs.declared.reader.Reader as FroniusState
 use Rattle.fronius.proofs.StageRanges as FroniusRange
+use Rattle.drives.specs.Wire as DrivesWire
+use Rattle.drives.specs.Rules as DrivesRules
+use Rattle.drives.specs.Machine as Drives
+use Rattle.drives.specs.Reader as DrivesReader
+use Rattle.drives.specs.declared.reader.Reader as DrivesState
+use Rattle.drives.proofs.StageRanges as DrivesRange
+use Rattle.drives.proofs.FrameLimits.{sized-bounds}
 use Rattle.listing_text.specs.Lines.{Shown, decimal, messageLine, damageLine}
-use Rattle.listing_text.proofs.FieldLengths.{decimal-10, decimal-16, decimal-most}
-use Rattle.listing_text.proofs.LineLengths.{message-most, damage-five}
-use Rattle.listing.specs.Entries.{showComlynx, showEversolar, showFronius, showEvent, entryLine}
+use Rattle.listing_text.proofs.FieldLengths.{decimal-8, decimal-10, decimal-16, decimal-most}
+use Rattle.listing_text.proofs.LineLengths.{message-most, damage-most}
+use Rattle.listing.specs.Entries.{showComlynx, showEversolar, showFronius, showDrives, showEvent, entryLine}
 
 -- the line of an event, if there is one
 abbrev pub lineFor : {M : Type 0} → (M → Shown) → (port : ℕ) → Option (Event M) → List ℕ
@@ -85,7 +93,7 @@ module _ (port : ℕ) (small : port < 10) where
       go true =
           let long : length (drop 3 (take (3 + len) held)) ≤ len = simp (length-drop, length-take) (omega arith) in
           omega (arith, message-most port (showFronius (FroniusWire.messageOf (take (3 + len) held))) (omega arith))
-      go false = omega (arith, damage-five port 6 (8 + len) small (omega arith), decimal-most (8 + len))
+      go false = omega (arith, damage-most port 6 (8 + len) small (omega arith), decimal-most (8 + len))
 
   pub fronius-weighs : Weighs Fronius.next showFronius port froniusWeight
   unfolding Fronius.next Fronius.advanceOf Fronius.moved
@@ -97,7 +105,7 @@ module _ (port : ℕ) (small : port < 10) where
       go true true false t u c d e f g = rw (c, d, e) (omega arith)
       go true false true t u c d e f g = rw (c, d, e) (omega arith)
       go true false false true u c d e f g = rw (c, d, e, f) (omega arith)
-      go true false false false u c d e f g = rw (c, d, e, f) (omega (arith, damage-five port 7 4 small (omega arith), decimal-most 4))
+      go true false false false u c d e f g = rw (c, d, e, f) (omega (arith, damage-most port 7 4 small (omega arith), decimal-most 4))
       go false q r t true c d e f g = rw (c, g) (omega arith)
       go false q r t false c d e f g = rw (c, g) (omega (arith, fronius-judged (s .len) (s .count) b (s .held) (ltb-false (s .count) (3 + s .len) g)))
 
@@ -127,7 +135,7 @@ module _ (port : ℕ) (small : port < 10) where
       go true =
           let long : length (take len (drop 7 held)) ≤ len = simp length-take (omega arith) in
           omega (arith, message-most port (showEversolar (EversolarWire.messageOf six (take len (drop 7 held)))) (omega arith))
-      go false = omega (arith, damage-five port 6 (11 + len) small (omega arith), decimal-most (11 + len))
+      go false = omega (arith, damage-most port 6 (11 + len) small (omega arith), decimal-most (11 + len))
 
   pub eversolar-weighs : Weighs Eversolar.next showEversolar port eversolarWeight
   unfolding Eversolar.next Eversolar.advanceOf Eversolar.moved
@@ -163,12 +171,12 @@ more-came : (came : ℕ) → length (decimal (Comlynx.more came 1)) ≤ 5
 more-came came = decimal-16 (Comlynx.more came 1) (omega arith)
 
 module _ (port : ℕ) (small : port < 10) where
-  -- the digits of what is lost, and 5 bytes more
-  lost : (number came : ℕ) → number < 10 → length (damageLine port number came) ≤ 5 + length (decimal came)
-  lost number came h = omega (arith, damage-five port number came small h)
+  -- the digits of what is lost, and 7 bytes more
+  lost : (number came : ℕ) → number < 256 → length (damageLine port number came) ≤ 7 + length (decimal came)
+  lost number came h = omega (arith, damage-most port number came small h)
 
   comlynx-judged : (came n : ℕ) (right : Bool) (bs : List ℕ) → length bs ≤ n
-      → length (entryLine port (showEvent showComlynx (ComlynxRules.judged came n right bs))) ≤ 2 * n + length (decimal came) + 5
+      → length (entryLine port (showEvent showComlynx (ComlynxRules.judged came n right bs))) ≤ 2 * n + length (decimal came) + 7
   unfolding ComlynxRules.judged
   comlynx-judged came n right bs h = go (leb ComlynxWire.bodyLeast n) (leb n ComlynxWire.bodyMax) (ComlynxRules.begins bs) (eqb (getD bs 6 0) (n - ComlynxWire.bodyLeast)) right refl
     where
@@ -176,7 +184,7 @@ module _ (port : ℕ) (small : port < 10) where
           → length
           (entryLine port
           (showEvent showComlynx
-          (cond (p && q) (cond r (cond t (cond u (message (ComlynxWire.messageOf bs)) (damage 6 came)) (damage 5 came)) (damage 4 came)) (damage 3 came)))) ≤ 2 * n + length (decimal came) + 5
+          (cond (p && q) (cond r (cond t (cond u (message (ComlynxWire.messageOf bs)) (damage 6 came)) (damage 5 came)) (damage 4 came)) (damage 3 came)))) ≤ 2 * n + length (decimal came) + 7
       go true true true true true e =
           let long : length (take (length bs - ComlynxWire.bodyLeast) (drop 8 bs)) ≤ length bs - ComlynxWire.bodyLeast = simp length-take (omega arith) in
           omega (arith, leb-true ComlynxWire.bodyLeast n e, message-most port (showComlynx (ComlynxWire.messageOf bs)) (omega arith))
@@ -186,7 +194,7 @@ module _ (port : ℕ) (small : port < 10) where
       go true false r t u e = omega (arith, lost 3 came (omega arith))
       go false q r t u e = omega (arith, lost 3 came (omega arith))
 
-  comlynx-closed : (came count : ℕ) (held : List ℕ) → length (entryLine port (showEvent showComlynx (Comlynx.closed came count held))) ≤ 2 * count + length (decimal came) + 5
+  comlynx-closed : (came count : ℕ) (held : List ℕ) → length (entryLine port (showEvent showComlynx (Comlynx.closed came count held))) ≤ 2 * count + length (decimal came) + 7
   comlynx-closed came count held = comlynx-judged came count _ (take count held) (simp length-take (omega arith))
 
   -- a byte kept, or one too many
@@ -228,3 +236,61 @@ comlynx-heavy s e =
     let range = ComlynxRange.range-of (s .stage) (s .came) (s .count) e in
     let few = ComlynxRange.range-came (s .stage) (s .came) (s .count) range in
     omega (arith, ComlynxRange.range-count (s .stage) (s .came) (s .count) range, decimal-16 (s .came) (omega (arith, few)))
+
+-- ---- drives
+
+-- the characters that are held, and the digits of how long the frame is with opening byte and EOT
+abbrev pub drivesWeight : DrivesState.Reader → ℕ
+drivesWeight s = 2 * min (s .count) Drives.heldMax + length (decimal (s .count + 2))
+
+-- before the first character of a frame; after a further one that is held; after one that is not
+none-held : length (decimal 2) ≡ 1
+none-held = decimal-10 2 (omega arith)
+
+more-held : (count : ℕ) → count < Drives.heldMax → length (decimal (count + 1 + 2)) ≤ 3
+more-held count h = decimal-8 (count + 1 + 2) (omega arith)
+
+more-counted : (count : ℕ) → length (decimal (min (count + 1) Drives.countMax + 2)) ≤ 5
+more-counted count = decimal-16 (min (count + 1) Drives.countMax + 2) (omega arith)
+
+module _ (port : ℕ) (small : port < 10) where
+  drives-judged : (opening count : ℕ) (cs : List ℕ) → length cs ≤ count
+      → length (entryLine port (showEvent showDrives (DrivesRules.judged opening (count + 2) cs))) ≤ 2 * min count Drives.heldMax + length (decimal (count + 2)) + 12
+  unfolding DrivesRules.judged
+  drives-judged opening count cs h = go (DrivesRules.sized opening (count + 2)) (DrivesWire.proper cs) (DrivesRules.agrees cs) refl
+    where
+      go : (p q r : Bool) → DrivesRules.sized opening (count + 2) ≡ p
+          → length
+          (entryLine port
+          (showEvent showDrives
+          (need p (damage 3 (count + 2)) (need q (damage 21 (count + 2)) (need r (damage 6 (count + 2)) (message (DrivesWire.messageOf opening cs)))))))
+          ≤ 2 * min count Drives.heldMax + length (decimal (count + 2)) + 12
+      go true true true e =
+          let long : length (take (length cs - 5) (drop 3 cs)) ≤ length cs - 5 = simp length-take (omega arith) in
+          omega (arith, sized-bounds opening count e, message-most port (showDrives (DrivesWire.messageOf opening cs)) (omega arith))
+      go true true false e = omega (arith, damage-most port 6 (count + 2) small (omega arith))
+      go true false r e = omega (arith, damage-most port 21 (count + 2) small (omega arith))
+      go false q r e = omega (arith, damage-most port 3 (count + 2) small (omega arith))
+
+  drives-closed : (opening count : ℕ) (held : List ℕ)
+      → length (entryLine port (showEvent showDrives (Drives.closed opening count held))) ≤ 2 * min count Drives.heldMax + length (decimal (count + 2)) + 12
+  drives-closed opening count held = drives-judged opening count (take count held) (simp length-take (omega arith))
+
+  pub drives-weighs : Weighs Drives.next showDrives port drivesWeight
+  unfolding Drives.next Drives.advanceOf Drives.moved
+  drives-weighs s b = go (eqb (s .stage) 0) (DrivesWire.opens b) (eqb b DrivesWire.eot) (ltb (s .count) Drives.heldMax) refl refl refl refl
+    where
+      go : (p q r t : Bool) → eqb (s .stage) 0 ≡ p → DrivesWire.opens b ≡ q → eqb b DrivesWire.eot ≡ r → ltb (s .count) Drives.heldMax ≡ t
+          → length (lineFor showDrives port (Drives.next s b .event)) + drivesWeight (Drives.next s b .state) ≤ drivesWeight s + perByte
+      go true true r t a c d e = rw (a, c) (omega (arith, none-held))
+      go true false r t a c d e = rw (a, c) (omega arith)
+      go false q true t a c d e = rw (a, d) (omega (arith, none-held, drives-closed (s .stage) (s .count) (s .held)))
+      go false q false true a c d e = rw (a, d, e) (omega (arith, more-held (s .count) (ltb-true (s .count) Drives.heldMax e)))
+      go false q false false a c d e = rw (a, d, e) (omega (arith, more-counted (s .count), ltb-false (s .count) Drives.heldMax e))
+
+pub drives-heavy : (s : DrivesState.Reader) → DrivesReader.inRange s ≡ true → drivesWeight s ≤ heldMost
+drives-heavy s e = go (DrivesRange.range-of (s .stage) (s .count) e)
+  where
+    go : DrivesRange.Range (s .stage) (s .count) → drivesWeight s ≤ heldMost
+    go (DrivesRange.looks p q) = omega (arith, decimal-16 (s .count + 2) (omega arith))
+    go (DrivesRange.reads p q) = omega (arith, decimal-16 (s .count + 2) (omega arith))

@@ -115,14 +115,21 @@ module _ (at : Seat) (l : Listing) (piece lent later : List ℕ) (reader : rowOf
   abbrev p : Packet
   p = packet (rowOf at .port) piece
 
-  -- out of its range
-  pub drain-refused : spoilt ≡ true → r ≡ listed (unmoved Spoilt l) → HandsBack l (taking l p) lent r later
+  -- the reader put back, and nothing counted
+  abbrev put-back : Listing
+  put-back = record { ports = rowOf at .put (l .ports) reader; packets = l .packets; messages = l .messages; damages = l .damages }
+
+  -- out of its range: it comes back as it was
+  pub drain-refused : spoilt ≡ true → r ≡ listed (unmoved Spoilt put-back) → HandsBack l (taking l p) lent r later
   unfolding taking
   drain-refused t e =
       let out : rowOf at .inRange (rowOf at .get (l .ports)) ≡ false = not-true _ (sym (d .range) ∙ t) in
       let is : unmoved Spoilt l ≡ taking l p = rw (factsOf at .own-seat, out) in
       let kept : later ≡ lent = d .refuses out .1 in
-      rw kept (same-made l lent lent r is (nothing l (unmoved Spoilt l) lent r refl refl e))
+      let same : rowOf at .put (l .ports) reader ≡ l .ports = ap (rowOf at .put (l .ports)) (d .refuses out .0) ∙ factsOf at .puts-own (l .ports) in
+      let told-so : r ≡ listed (unmoved Spoilt l) =
+      e ∙ ap (λ (ps : Ports). listed (unmoved Spoilt (record { ports = ps; packets = l .packets; messages = l .messages; damages = l .damages }))) same in
+      rw kept (same-made l lent lent r is (nothing l (unmoved Spoilt l) lent r refl refl told-so))
 
   -- in its range
   pub drain-taken : spoilt ≡ false → CanTake l (length piece) (length lent)

@@ -3,7 +3,7 @@ use Prim.Native.Nat.{ℕ, _+_}
 use mathlib.Core.Option.{Option, none, some}
 use mathlib.Core.List.{List, [], _∷_, _++_, map}
 use Rattle.stream.specs.Event.{Event, message, damage}
-pub use Rattle.ports.specs.Shown.{word, showComlynx, showEversolar, showFronius}
+pub use Rattle.ports.specs.Shown.{word, showComlynx, showEversolar, showFronius, showDrives}
 use Rattle.listing_text.specs.Lines.{Shown, messageLine, damageLine, stopLine, endLine}
 
 abbrev pub showEvent : {M : Type 0} → (M → Shown) → Event M → Event Shown

@@ -1,6 +1,7 @@
 // A packet's piece, handed to the reader of its port until it is used up: a line for each message and each damage.
 use crate::shown::comlynx_line;
 use crate::shown::damage_line;
+use crate::shown::drives_line;
 use crate::shown::eversolar_line;
 use crate::shown::fronius_line;
 ghost use Prim.Native.Nat.{_≤_, _<_};
@@ -11,8 +12,10 @@ ghost use Rattle.eversolar.specs.Machine as EversolarMachine;
 ghost use Rattle.eversolar.specs.Reader as Eversolar;
 ghost use Rattle.fronius.specs.Machine as FroniusMachine;
 ghost use Rattle.fronius.specs.Reader as Fronius;
+ghost use Rattle.drives.specs.Machine as DrivesMachine;
+ghost use Rattle.drives.specs.Reader as Drives;
 ghost use Rattle.uplink.specs.Packet.{pieceMax};
-ghost use Rattle.listing.specs.Entries.{showComlynx, showEversolar, showFronius};
+ghost use Rattle.listing.specs.Entries.{showComlynx, showEversolar, showFronius, showDrives};
 ghost use Rattle.listing.specs.Steps.{roomLeast};
 ghost use Rattle.listing.specs.Inside.{Drains};
 
@@ -38,6 +41,14 @@ pub(crate) struct EversolarDrained {
 
 pub(crate) struct FroniusDrained {
     pub reader: fronius::Reader,
+    pub spoilt: bool,
+    pub wrote: usize,
+    pub messages: u64,
+    pub damages: u64,
+}
+
+pub(crate) struct DrivesDrained {
+    pub reader: drives::Reader,
     pub spoilt: bool,
     pub wrote: usize,
     pub messages: u64,
@@ -215,6 +226,63 @@ pub(crate) fn drain_fronius(
         len: s.len,
     };
     FroniusDrained {
+        reader: next,
+        spoilt,
+        wrote,
+        messages,
+        damages,
+    }
+}
+
+pub(crate) fn drain_drives(
+    reader: drives::Reader,
+    port: u8,
+    piece: &[u8],
+    out: &mut [u8],
+) -> DrivesDrained
+    requires { ⌜ (1 ≤ port) × (port < 10) × (0 < length (now piece)) × (length (now piece) ≤ pieceMax) × (roomLeast ≤ length (now out)) ⌝ }
+    ensures { λ r. ⌜ Drains DrivesMachine.next Drives.inRange showDrives reader port (now (piece .entry)) (now (out .entry)) (r .reader) (r .spoilt) (r .wrote) (r .messages) (r .damages) (now (out .exit)) ⌝ }
+{
+    let mut lent = [0u8; LENT];
+    let mut held = reader.held;
+    let answer = drives::Answer::Done;
+    let mut s = drives::StepInPlace {
+        stage: reader.stage,
+        count: reader.count,
+        answer,
+        used: 0,
+    };
+    let mut spoilt = false;
+    let mut wrote: usize = 0;
+    let mut messages: u64 = 0;
+    let mut damages: u64 = 0;
+    let mut at: usize = 0;
+    while at < piece.len() {
+        s = drives::step_in_place(s.stage, s.count, &mut held, &piece[at..], &mut lent);
+        at += s.used;
+        let answer = s.answer;
+        match answer {
+            drives::Answer::Done => {}
+            drives::Answer::Message(h) => {
+                wrote += drives_line(port, h, &lent, &mut out[wrote..]);
+                messages += 1;
+            }
+            drives::Answer::Damaged { what, lost } => {
+                wrote += damage_line(port, what, lost, &mut out[wrote..]);
+                damages += 1;
+            }
+            drives::Answer::Refused(_) => {
+                spoilt = true;
+                break;
+            }
+        }
+    }
+    let next = drives::Reader {
+        held,
+        stage: s.stage,
+        count: s.count,
+    };
+    DrivesDrained {
         reader: next,
         spoilt,
         wrote,

@@ -3,10 +3,12 @@ mod drain;
 mod shown;
 
 use crate::drain::drain_comlynx;
+use crate::drain::drain_drives;
 use crate::drain::drain_eversolar;
 use crate::drain::drain_fronius;
 use answers::Refusal;
 use ports::COMLYNX;
+use ports::DRIVES;
 use ports::EVERSOLAR;
 use ports::FRONIUS;
 use ports::Ports;
@@ -202,7 +204,9 @@ impl Listing {
     }
 
     // One packet: that at the front of the input at hand. `ended` says that no more is to come after it. A packet's bytes are used, and its
-    // lines written, all or none. The three ways stand in one long function: each function between would copy the listing, 740 bytes, once more.
+    // lines written, all or none. The four ways stand in one long function: each function between would copy the listing, some 800 bytes, once more.
+    // A reader is put back before it is asked whether it was spoilt: a spoilt one comes back as it was. So nothing needs the listing of before,
+    // and no copy of it is kept.
     pub fn step(mut self, input: &[u8], ended: bool, out: &mut [u8]) -> Listed
         ensures { λ r. ⌜ IsStep self (now (input .entry)) ended (now (out .entry)) r (now (out .exit)) ⌝ }
     {
@@ -226,45 +230,57 @@ impl Listing {
                 used,
             } => {
                 let piece = &input[LEAD..used];
+                let mut ports = self.ports;
                 if port == COMLYNX {
-                    let mut ports = self.ports;
                     let reader = ports.comlynx;
                     let d = drain_comlynx(reader, COMLYNX, piece, out);
-                    if d.spoilt {
-                        return refused(self, Refusal::Spoilt);
-                    }
                     let next = d.reader;
                     ports.comlynx = next;
                     self.ports = ports;
+                    if d.spoilt {
+                        return refused(self, Refusal::Spoilt);
+                    }
                     self.packets += 1;
                     self.messages += d.messages;
                     self.damages += d.damages;
                     return taken(self, LEAD + piece.len(), d.wrote);
                 }
                 if port == EVERSOLAR {
-                    let mut ports = self.ports;
                     let reader = ports.eversolar;
                     let d = drain_eversolar(reader, EVERSOLAR, piece, out);
-                    if d.spoilt {
-                        return refused(self, Refusal::Spoilt);
-                    }
                     let next = d.reader;
                     ports.eversolar = next;
                     self.ports = ports;
+                    if d.spoilt {
+                        return refused(self, Refusal::Spoilt);
+                    }
                     self.packets += 1;
                     self.messages += d.messages;
                     self.damages += d.damages;
                     return taken(self, LEAD + piece.len(), d.wrote);
                 }
-                let mut ports = self.ports;
-                let reader = ports.fronius;
-                let d = drain_fronius(reader, FRONIUS, piece, out);
+                if port == FRONIUS {
+                    let reader = ports.fronius;
+                    let d = drain_fronius(reader, FRONIUS, piece, out);
+                    let next = d.reader;
+                    ports.fronius = next;
+                    self.ports = ports;
+                    if d.spoilt {
+                        return refused(self, Refusal::Spoilt);
+                    }
+                    self.packets += 1;
+                    self.messages += d.messages;
+                    self.damages += d.damages;
+                    return taken(self, LEAD + piece.len(), d.wrote);
+                }
+                let reader = ports.drives;
+                let d = drain_drives(reader, DRIVES, piece, out);
+                let next = d.reader;
+                ports.drives = next;
+                self.ports = ports;
                 if d.spoilt {
                     return refused(self, Refusal::Spoilt);
                 }
-                let next = d.reader;
-                ports.fronius = next;
-                self.ports = ports;
                 self.packets += 1;
                 self.messages += d.messages;
                 self.damages += d.damages;

@@ -8,7 +8,8 @@ ghost use Rattle.stream.specs.Call.{lentLeast};
 ghost use Rattle.comlynx.specs.Reader as Comlynx;
 ghost use Rattle.eversolar.specs.Reader as Eversolar;
 ghost use Rattle.fronius.specs.Reader as Fronius;
-ghost use Rattle.listing.specs.Entries.{showComlynx, showEversolar, showFronius, entryLine};
+ghost use Rattle.drives.specs.Reader as Drives;
+ghost use Rattle.listing.specs.Entries.{showComlynx, showEversolar, showFronius, showDrives, entryLine};
 ghost use Rattle.listing.specs.Inside.{Put};
 
 // A ComLynx message, whose data stand at the front of `payload`.
@@ -60,6 +61,23 @@ pub(crate) fn fronius_line(port: u8, h: fronius::Header, payload: &[u8], out: &m
 {
     let n = h.len;
     listing_text::message_0_2_1(port, h.device, h.number, h.command, &payload[..n], out).length()
+}
+
+// A drives message: from is its opening byte, to its station, and the code its letter.
+pub(crate) fn drives_line(port: u8, h: drives::Header, payload: &[u8], out: &mut [u8]) -> usize
+    requires { ⌜ (h .len ≤ lentLeast) × (h .len ≤ length (now payload)) × (length (entryLine port (message (showDrives (Drives.join h (now payload))))) ≤ length (now out)) ⌝ }
+    ensures { λ r. ⌜ Put (entryLine port (message (showDrives (Drives.join h (now (payload .entry)))))) (now (out .entry)) r (now (out .exit)) ⌝ }
+{
+    let n = h.len;
+    listing_text::message_1_2_1(
+        port,
+        h.opening,
+        h.station_first,
+        h.station_second,
+        h.letter,
+        &payload[..n],
+        out,
+    ).length()
 }
 
 // A damage of any family, and how many bytes were lost with it.

@@ -1,4 +1,4 @@
--- Document 01's own listings, and one with a damage as document 02 has it: input and whole output.
+-- Document 01's own listings, and some as document 02 has them: one with a damage, and two of port 4. Input and whole output.
 use mathlib.Core.Path.{_≡_}
 use mathlib.Core.List.{[], _∷_, _++_}
 use Rattle.numbers.specs.Texts.{text}
@@ -15,6 +15,18 @@ abbrev pub BrokenStretch : Type 0
 BrokenStretch =
     listingOf (0x53 ∷ 0x42 ∷ 0x52 ∷ 0x00 ∷ 0x01 ∷ 0x01 ∷ 0x06 ∷ 0x7E ∷ 0xFF ∷ 0x03 ∷ 0x7D ∷ 0x00 ∷ 0x7E ∷ [])
     ≡ text "port answer from to code data\n" ++ (text "1 2 4\n" ++ text "end 0 1\n")
+
+-- one packet of version 00 02, for port 4: the frame that source document 003 prints, which reads one address at 3000 from station 01
+abbrev pub DriveRead : Type 0
+DriveRead =
+    listingOf (0x53 ∷ 0x42 ∷ 0x52 ∷ 0x00 ∷ 0x02 ∷ 0x04 ∷ 0x0C ∷ 0x05 ∷ 0x30 ∷ 0x31 ∷ 0x52 ∷ 0x33 ∷ 0x30 ∷ 0x30 ∷ 0x30 ∷ 0x31 ∷ 0x41 ∷ 0x37 ∷ 0x04 ∷ [])
+    ≡ text "port answer from to code data\n" ++ (text "4 1 05 3031 52 3330303031\n" ++ text "end 1 0\n")
+
+-- the same frame with its letter in lower case, so that its sum is wrong too: it loses the whole frame, opening byte and EOT included
+abbrev pub LowerCaseLetter : Type 0
+LowerCaseLetter =
+    listingOf (0x53 ∷ 0x42 ∷ 0x52 ∷ 0x00 ∷ 0x02 ∷ 0x04 ∷ 0x0C ∷ 0x05 ∷ 0x30 ∷ 0x31 ∷ 0x72 ∷ 0x33 ∷ 0x30 ∷ 0x30 ∷ 0x30 ∷ 0x31 ∷ 0x41 ∷ 0x37 ∷ 0x04 ∷ [])
+    ≡ text "port answer from to code data\n" ++ (text "4 21 12\n" ++ text "end 0 1\n")
 
 -- empty input gives the header and `end 0 0`
 abbrev pub Nothing : Type 0

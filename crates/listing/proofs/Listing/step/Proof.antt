@@ -13,7 +13,7 @@ use Rattle.uplink.specs.Packet.{leadLength, IsRead}
 use Rattle.uplink.specs.Demands.{Within}
 use Rattle.uplink.specs.declared.Received.the-variants.{Packet}
 use Rattle.uplink.proofs.Demands.{fits}
-use Rattle.ports.specs.Ports.{comlynxSeat, eversolarSeat, froniusSeat}
+use Rattle.ports.specs.Ports.{comlynxSeat, eversolarSeat, froniusSeat, drivesSeat}
 use Rattle.listing.specs.Steps.{unmoved, ends, taking, inRange, roomLeast, made}
 use Rattle.listing.specs.Inside.{stopOf}
 use Rattle.listing.proofs.StepMakes.{CanTake, packet, fits as counts-fit, in-counts, same-made, nothing, line-long, drain-refused, drain-taken, out-of-range, no-room, no-input, too-many, one-packet, refused-packet}
@@ -170,9 +170,9 @@ same-length-3 c = search needs
 
 returns-5 : tie.Need-returns-5
 returns-5 c =
-    let p : tie.After-received = c .before .before .before .before .before .before .before .before .before .before .before in
+    let p : tie.After-received = c .before .before .before .before .before .before .before .before .before .before .before .before in
     let a = args-of (from-four (at-packet p)) .args in
-    let d = c .before .before .before .before .drain-comlynx in
+    let d = c .before .before .before .before .before .drain-comlynx in
     let is : port-of p ≡ 1 = omega (arith, c .before .before .before .before .before .before .before .before .if5 .taken) in
     let r = c .refused3 in
     same-made (a .self) (now (a .out)) (d .last .1 .1 .1 .0) (r .result) (at-port p 1 is)
@@ -206,11 +206,11 @@ returns-6 c =
     let p : tie.After-received = c .before .before .before .before .before .before .before .before .before .before .before .before .before .before .before .before .before in
     let a = args-of (from-four (at-packet p)) .args in
     let d = c .before .before .before .before .before .before .before .before .before .before .drain-comlynx in
-    let is : port-of p ≡ 1 = omega (arith, c .before .before .before .before .before .before .before .before .before .before .before .before .before .before .if5 .taken) in
+    let is : port-of p ≡ 1 = omega (arith, c .before .before .before .before .before .before .before .before .before .before .before .before .before .if5 .taken) in
     let r = c .taken in
     same-made (a .self) (now (a .out)) (d .last .1 .1 .1 .0) (r .result) (at-port p 1 is)
     (drain-taken comlynxSeat (a .self) (seat-at p) (now (a .out)) (d .last .1 .1 .1 .0) (d .result .reader) (d .result .spoilt) (d .result .wrote) (d .result .messages) (d .result .damages)
-    (r .result) (d .ensures) (c .before .before .before .before .before .before .before .if6 .left) (can-take p) (r .ensures))
+    (r .result) (d .ensures) (c .before .before .before .before .before .before .if6 .left) (can-take p) (r .ensures))
 
 drain-eversolar-requires : tie.Need-drain-eversolar-requires
 drain-eversolar-requires c κs = let t = can-take (c .before .before .before .before .before .before .before) in (omega arith, omega arith, t .some, t .most, t .lent)
@@ -223,9 +223,9 @@ same-length-5 c = search needs
 
 returns-7 : tie.Need-returns-7
 returns-7 c =
-    let p : tie.After-received = c .before .before .before .before .before .before .before .before .before .before .before .before in
+    let p : tie.After-received = c .before .before .before .before .before .before .before .before .before .before .before .before .before in
     let a = args-of (from-four (at-packet p)) .args in
-    let d = c .before .before .before .before .drain-eversolar in
+    let d = c .before .before .before .before .before .drain-eversolar in
     let is : port-of p ≡ 2 = omega (arith, c .before .before .before .before .before .before .before .before .if7 .taken) in
     let r = c .refused4 in
     same-made (a .self) (now (a .out)) (d .last .1 .1 .1 .0) (r .result) (at-port p 2 is)
@@ -259,14 +259,14 @@ returns-8 c =
     let p : tie.After-received = c .before .before .before .before .before .before .before .before .before .before .before .before .before .before .before .before .before .before in
     let a = args-of (from-four (at-packet p)) .args in
     let d = c .before .before .before .before .before .before .before .before .before .before .drain-eversolar in
-    let is : port-of p ≡ 2 = omega (arith, c .before .before .before .before .before .before .before .before .before .before .before .before .before .before .if7 .taken) in
+    let is : port-of p ≡ 2 = omega (arith, c .before .before .before .before .before .before .before .before .before .before .before .before .before .if7 .taken) in
     let r = c .taken2 in
     same-made (a .self) (now (a .out)) (d .last .1 .1 .1 .0) (r .result) (at-port p 2 is)
     (drain-taken eversolarSeat (a .self) (seat-at p) (now (a .out)) (d .last .1 .1 .1 .0) (d .result .reader) (d .result .spoilt) (d .result .wrote) (d .result .messages) (d .result .damages)
-    (r .result) (d .ensures) (c .before .before .before .before .before .before .before .if8 .left) (can-take p) (r .ensures))
+    (r .result) (d .ensures) (c .before .before .before .before .before .before .if8 .left) (can-take p) (r .ensures))
 
 drain-fronius-requires : tie.Need-drain-fronius-requires
-drain-fronius-requires c κs = let t = can-take (c .before .before .before .before .before .before .before) in (omega arith, omega arith, t .some, t .most, t .lent)
+drain-fronius-requires c κs = let t = can-take (c .before .before .before .before .before .before .before .before) in (omega arith, omega arith, t .some, t .most, t .lent)
 
 refused-requires-5 : tie.Need-refused-requires-5
 refused-requires-5 c κs = search needs
@@ -276,33 +276,86 @@ same-length-7 c = search needs
 
 returns-9 : tie.Need-returns-9
 returns-9 c =
-    let p : tie.After-received = c .before .before .before .before .before .before .before .before .before .before .before .before in
+    let p : tie.After-received = c .before .before .before .before .before .before .before .before .before .before .before .before .before .before in
     let a = args-of (from-four (at-packet p)) .args in
-    let d = c .before .before .before .before .drain-fronius in
-    let is : port-of p ≡ 3 = omega (arith, within p .first, within p .last, c .before .before .before .before .before .before .before .before .before .if5 .left, c .before .before .before .before .before .before .before .before .if7 .left) in
+    let d = c .before .before .before .before .before .drain-fronius in
+    let is : port-of p ≡ 3 = omega (arith, c .before .before .before .before .before .before .before .before .if9 .taken) in
     let r = c .refused5 in
     same-made (a .self) (now (a .out)) (d .last .1 .1 .1 .0) (r .result) (at-port p 3 is)
     (drain-refused froniusSeat (a .self) (seat-at p) (now (a .out)) (d .last .1 .1 .1 .0) (d .result .reader) (d .result .spoilt) (d .result .wrote) (d .result .messages) (d .result .damages)
-    (r .result) (d .ensures) (c .before .if9 .taken) (r .ensures))
+    (r .result) (d .ensures) (c .before .if10 .taken) (r .ensures))
 
 add-self-7 : tie.Need-add-self-7
-add-self-7 c = omega (arith, can-take (c .before .before .before .before .before .before .before .before .before .before .before .before .before) .packets)
+add-self-7 c = omega (arith, can-take (c .before .before .before .before .before .before .before .before .before .before .before .before .before .before) .packets)
 
 add-self-8 : tie.Need-add-self-8
 add-self-8 c =
-    let p : tie.After-received = c .before .before .before .before .before .before .before .before .before .before .before .before .before .before .before in
+    let p : tie.After-received = c .before .before .before .before .before .before .before .before .before .before .before .before .before .before .before .before in
     counts-fit (args-of (from-four (at-packet p)) .args .self) (can-take p) (c .before .before .before .before .before .before .before .drain-fronius .ensures .few) .0
 
 add-self-9 : tie.Need-add-self-9
 add-self-9 c =
-    let p : tie.After-received = c .before .before .before .before .before .before .before .before .before .before .before .before .before .before .before .before .before in
+    let p : tie.After-received = c .before .before .before .before .before .before .before .before .before .before .before .before .before .before .before .before .before .before in
     counts-fit (args-of (from-four (at-packet p)) .args .self) (can-take p) (c .before .before .before .before .before .before .before .before .before .drain-fronius .ensures .few) .1
 
 add-taken-3 : tie.Need-add-taken-3
-add-taken-3 c = omega (arith, can-take (c .before .before .before .before .before .before .before .before .before .before .before .before .before .before .before .before .before) .most)
+add-taken-3 c = omega (arith, can-take (c .before .before .before .before .before .before .before .before .before .before .before .before .before .before .before .before .before .before) .most)
 
 taken-requires-3 : tie.Need-taken-requires-3
 taken-requires-3 c κs = search needs
+
+same-length-8 : tie.Need-same-length-8
+same-length-8 c = let d = c .before .before .before .before .before .before .before .before .before .before .drain-fronius in search (needs, d)
+
+returns-10 : tie.Need-returns-10
+returns-10 c =
+    let p : tie.After-received = c .before .before .before .before .before .before .before .before .before .before .before .before .before .before .before .before .before .before .before in
+    let a = args-of (from-four (at-packet p)) .args in
+    let d = c .before .before .before .before .before .before .before .before .before .before .drain-fronius in
+    let is : port-of p ≡ 3 = omega (arith, c .before .before .before .before .before .before .before .before .before .before .before .before .before .if9 .taken) in
+    let r = c .taken3 in
+    same-made (a .self) (now (a .out)) (d .last .1 .1 .1 .0) (r .result) (at-port p 3 is)
+    (drain-taken froniusSeat (a .self) (seat-at p) (now (a .out)) (d .last .1 .1 .1 .0) (d .result .reader) (d .result .spoilt) (d .result .wrote) (d .result .messages) (d .result .damages)
+    (r .result) (d .ensures) (c .before .before .before .before .before .before .if10 .left) (can-take p) (r .ensures))
+
+drain-drives-requires : tie.Need-drain-drives-requires
+drain-drives-requires c κs = let t = can-take (c .before .before .before .before .before .before .before .before) in (omega arith, omega arith, t .some, t .most, t .lent)
+
+refused-requires-6 : tie.Need-refused-requires-6
+refused-requires-6 c κs = search needs
+
+same-length-9 : tie.Need-same-length-9
+same-length-9 c = search needs
+
+returns-11 : tie.Need-returns-11
+returns-11 c =
+    let p : tie.After-received = c .before .before .before .before .before .before .before .before .before .before .before .before .before .before in
+    let a = args-of (from-four (at-packet p)) .args in
+    let d = c .before .before .before .before .before .drain-drives in
+    let is : port-of p ≡ 4 = omega (arith, within p .first, within p .last, c .before .before .before .before .before .before .before .before .before .before .if5 .left, c .before .before .before .before .before .before .before .before .before .if7 .left, c .before .before .before .before .before .before .before .before .if9 .left) in
+    let r = c .refused6 in
+    same-made (a .self) (now (a .out)) (d .last .1 .1 .1 .0) (r .result) (at-port p 4 is)
+    (drain-refused drivesSeat (a .self) (seat-at p) (now (a .out)) (d .last .1 .1 .1 .0) (d .result .reader) (d .result .spoilt) (d .result .wrote) (d .result .messages) (d .result .damages)
+    (r .result) (d .ensures) (c .before .if11 .taken) (r .ensures))
+
+add-self-10 : tie.Need-add-self-10
+add-self-10 c = omega (arith, can-take (c .before .before .before .before .before .before .before .before .before .before .before .before .before .before) .packets)
+
+add-self-11 : tie.Need-add-self-11
+add-self-11 c =
+    let p : tie.After-received = c .before .before .before .before .before .before .before .before .before .before .before .before .before .before .before .before in
+    counts-fit (args-of (from-four (at-packet p)) .args .self) (can-take p) (c .before .before .before .before .before .before .before .drain-drives .ensures .few) .0
+
+add-self-12 : tie.Need-add-self-12
+add-self-12 c =
+    let p : tie.After-received = c .before .before .before .before .before .before .before .before .before .before .before .before .before .before .before .before .before .before in
+    counts-fit (args-of (from-four (at-packet p)) .args .self) (can-take p) (c .before .before .before .before .before .before .before .before .before .drain-drives .ensures .few) .1
+
+add-taken-4 : tie.Need-add-taken-4
+add-taken-4 c = omega (arith, can-take (c .before .before .before .before .before .before .before .before .before .before .before .before .before .before .before .before .before .before) .most)
+
+taken-requires-4 : tie.Need-taken-requires-4
+taken-requires-4 c κs = search needs
 
 enum-known-received-2 : tie.Need-enum-known-received-2
 enum-known-received-2 c = search needs
@@ -310,25 +363,25 @@ enum-known-received-2 c = search needs
 no-packet-requires : tie.Need-no-packet-requires
 no-packet-requires c κs = search needs
 
-same-length-8 : tie.Need-same-length-8
-same-length-8 c = let d = c .before .before .before .before .before .before .before .before .before .before .drain-fronius in search (needs, d)
+same-length-10 : tie.Need-same-length-10
+same-length-10 c = let d = c .before .before .before .before .before .before .before .before .before .before .drain-drives in search (needs, d)
 
-returns-10 : tie.Need-returns-10
-returns-10 c =
-    let p : tie.After-received = c .before .before .before .before .before .before .before .before .before .before .before .before .before .before .before .before .before .before in
+returns-12 : tie.Need-returns-12
+returns-12 c =
+    let p : tie.After-received = c .before .before .before .before .before .before .before .before .before .before .before .before .before .before .before .before .before .before .before in
     let a = args-of (from-four (at-packet p)) .args in
-    let d = c .before .before .before .before .before .before .before .before .before .before .drain-fronius in
-    let is : port-of p ≡ 3 = omega (arith, within p .first, within p .last, c .before .before .before .before .before .before .before .before .before .before .before .before .before .before .before .if5 .left, c .before .before .before .before .before .before .before .before .before .before .before .before .before .before .if7 .left) in
-    let r = c .taken3 in
-    same-made (a .self) (now (a .out)) (d .last .1 .1 .1 .0) (r .result) (at-port p 3 is)
-    (drain-taken froniusSeat (a .self) (seat-at p) (now (a .out)) (d .last .1 .1 .1 .0) (d .result .reader) (d .result .spoilt) (d .result .wrote) (d .result .messages) (d .result .damages)
-    (r .result) (d .ensures) (c .before .before .before .before .before .before .before .if9 .left) (can-take p) (r .ensures))
+    let d = c .before .before .before .before .before .before .before .before .before .before .drain-drives in
+    let is : port-of p ≡ 4 = omega (arith, within p .first, within p .last, c .before .before .before .before .before .before .before .before .before .before .before .before .before .before .before .if5 .left, c .before .before .before .before .before .before .before .before .before .before .before .before .before .before .if7 .left, c .before .before .before .before .before .before .before .before .before .before .before .before .before .if9 .left) in
+    let r = c .taken4 in
+    same-made (a .self) (now (a .out)) (d .last .1 .1 .1 .0) (r .result) (at-port p 4 is)
+    (drain-taken drivesSeat (a .self) (seat-at p) (now (a .out)) (d .last .1 .1 .1 .0) (d .result .reader) (d .result .spoilt) (d .result .wrote) (d .result .messages) (d .result .damages)
+    (r .result) (d .ensures) (c .before .before .before .before .before .before .if11 .left) (can-take p) (r .ensures))
 
-same-length-9 : tie.Need-same-length-9
-same-length-9 c = search needs
+same-length-11 : tie.Need-same-length-11
+same-length-11 c = search needs
 
-returns-11 : tie.Need-returns-11
-returns-11 c =
+returns-13 : tie.Need-returns-13
+returns-13 c =
     let p : tie.After-received2 = c .before .before .before .before .before in
     let four : tie.Else4 = p .before .before .before in
     let e = from-four four in
@@ -390,9 +443,20 @@ step-spec =
     add-self-9
     add-taken-3
     taken-requires-3
-    enum-known-received-2
-    no-packet-requires
     same-length-8
     returns-10
+    drain-drives-requires
+    refused-requires-6
     same-length-9
-    returns-11)
+    returns-11
+    add-self-10
+    add-self-11
+    add-self-12
+    add-taken-4
+    taken-requires-4
+    enum-known-received-2
+    no-packet-requires
+    same-length-10
+    returns-12
+    same-length-11
+    returns-13)
