@@ -2,6 +2,7 @@
 use answers::Refusal;
 use answers::Written;
 use test_parts::COMLYNX;
+use test_parts::DRIVES;
 use test_parts::EVERSOLAR;
 use test_parts::FRONIUS;
 use test_parts::byte_at;
@@ -35,7 +36,7 @@ const PAYLOAD_MAX: usize = 255;
 const UNCHANGED: usize = 255;
 
 // More than there are records.
-const RECORDS: usize = 300;
+const RECORDS: usize = 400;
 
 // Copies the bytes that nobody sent.
 fn noise(payload: &[u8], room: &mut [u8]) -> Written {
@@ -69,6 +70,14 @@ fn write(who: u8, header: &[u8], payload: &[u8], room: &mut [u8]) -> Written {
             byte_at(header, 0),
             byte_at(header, 1),
             byte_at(header, 2),
+            payload,
+            room,
+        ),
+        DRIVES => drives::write(
+            byte_at(header, 0),
+            byte_at(header, 1),
+            byte_at(header, 2),
+            byte_at(header, 3),
             payload,
             room,
         ),

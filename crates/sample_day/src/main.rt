@@ -1,10 +1,11 @@
-// Writes a day of packets from three ports to standard output, as a board sends them from the first light to the last. Standard input is what
+// Writes a day of packets from four ports to standard output, as a board sends them from the first light to the last. Standard input is what
 // was said, a record for each message: `sample/day.txt` as bytes. Every message is made by the writer of its family and every packet by the
 // packet writer; then some bytes are changed, as a bad line changes them, so that each damage number comes up.
 use libc::STDIN_FILENO;
 use libc::STDOUT_FILENO;
 use line::fill;
 use test_parts::COMLYNX;
+use test_parts::DRIVES;
 use test_parts::EVERSOLAR;
 use test_parts::FRONIUS;
 use test_parts::further;
@@ -32,15 +33,17 @@ fn send_next(port: u8, round: usize, line: &[u8], from: usize) -> usize {
 }
 
 // The ports take turns, each with cuts of its own.
-fn send_all(one: &[u8], two: &[u8], three: &[u8]) {
+fn send_all(one: &[u8], two: &[u8], three: &[u8], four: &[u8]) {
     let mut a: usize = 0;
     let mut b: usize = 0;
     let mut c: usize = 0;
+    let mut d: usize = 0;
     let mut round: usize = 0;
     while round < ROUNDS {
         a = send_next(COMLYNX, round, one, a);
         b = send_next(EVERSOLAR, round + 2, two, b);
         c = send_next(FRONIUS, round + 3, three, c);
+        d = send_next(DRIVES, round + 1, four, d);
         round += 1;
     }
 }
@@ -52,12 +55,15 @@ fn main() {
     let mut one = io::buffer();
     let mut two = io::buffer();
     let mut three = io::buffer();
+    let mut four = io::buffer();
     let end_one = fill(&mut one, &day, COMLYNX);
     let end_two = fill(&mut two, &day, EVERSOLAR);
     let end_three = fill(&mut three, &day, FRONIUS);
+    let end_four = fill(&mut four, &day, DRIVES);
     send_all(
         part(&one, 0, end_one),
         part(&two, 0, end_two),
         part(&three, 0, end_three),
+        part(&four, 0, end_four),
     );
 }

@@ -11,6 +11,8 @@ pub const EVERSOLAR: u8 = 2;
 
 pub const FRONIUS: u8 = 3;
 
+pub const DRIVES: u8 = 4;
+
 // The index so many bytes further on, or the greatest that there is.
 pub fn further(at: usize, n: usize) -> usize
     ensures { λ r. ⌜ IsFurther at n r ⌝ }

@@ -6,10 +6,10 @@ use Rattle.sample_day.proofs.send_all.Statement.{statement}
 use Rattle.sample_day.proofs.send_all.Tie as tie
 
 abbrev Inv-loop : tie.InvT-loop
-Inv-loop one two three a₀ b₀ c₀ round₀ a b c round = round ≤ 60
+Inv-loop one two three four a₀ b₀ c₀ d₀ round₀ a b c d round = round ≤ 60
 
 abbrev μ-loop : tie.MeasureT-loop
-μ-loop one two three a₀ b₀ c₀ round₀ a b c round = 60 - round
+μ-loop one two three four a₀ b₀ c₀ d₀ round₀ a b c d round = 60 - round
 
 loop-holds : tie.Need-loop-holds Inv-loop μ-loop
 loop-holds c = search needs
@@ -28,6 +28,12 @@ add-send-next-2 c = search needs
 
 send-next-requires-3 : tie.Need-send-next-requires-3 Inv-loop μ-loop
 send-next-requires-3 c κs = search needs
+
+add-send-next-3 : tie.Need-add-send-next-3 Inv-loop μ-loop
+add-send-next-3 c = search needs
+
+send-next-requires-4 : tie.Need-send-next-requires-4 Inv-loop μ-loop
+send-next-requires-4 c κs = search needs
 
 add-round : tie.Need-add-round Inv-loop μ-loop
 add-round c = search needs
@@ -53,6 +59,8 @@ send-all-spec =
     send-next-requires-2
     add-send-next-2
     send-next-requires-3
+    add-send-next-3
+    send-next-requires-4
     add-round
     loop-less
     loop-again

@@ -8,10 +8,10 @@ use Rattle.sample_day.proofs.line.fill.Statement.{statement}
 use Rattle.sample_day.proofs.line.fill.Tie as tie
 
 abbrev Inv-loop : tie.InvT-loop
-Inv-loop line₀ day port at₀ next₀ records₀ line at next records = (records ≤ 300) × (length line ≡ length line₀)
+Inv-loop line₀ day port at₀ next₀ records₀ line at next records = (records ≤ 400) × (length line ≡ length line₀)
 
 abbrev μ-loop : tie.MeasureT-loop
-μ-loop line₀ day port at₀ next₀ records₀ line at next records = 300 - records
+μ-loop line₀ day port at₀ next₀ records₀ line at next records = 400 - records
 
 loop-holds : tie.Need-loop-holds Inv-loop μ-loop
 loop-holds c = search needs
