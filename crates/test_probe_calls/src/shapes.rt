@@ -54,15 +54,17 @@ fn writing(op: u8) -> Shape {
         0x11 => written(5, 2, 0),
         0x12 => written(6, 2, 0),
         0x13 => written(3, 2, 0),
+        0x14 => written(4, 2, 0),
         _ => unlisted(),
     }
 }
 
-fn comlynx_meaning(op: u8) -> Shape {
+fn comlynx_or_drives_meaning(op: u8) -> Shape {
     match op {
         0x21 => value(1, 1, 4),
         0x22 => value(2, 0, 4),
         0x23 => value(3, 0, 3),
+        0x24 => value(3, 0, 2),
         _ => unlisted(),
     }
 }
@@ -122,7 +124,7 @@ fn summing(op: u8) -> Shape {
 pub(crate) fn shape_of(op: u8) -> Shape {
     match op / 16 {
         1 => writing(op),
-        2 => comlynx_meaning(op),
+        2 => comlynx_or_drives_meaning(op),
         3 => eversolar_meaning(op),
         4 => fronius_meaning(op),
         5 => rostering(op),

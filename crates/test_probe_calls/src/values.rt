@@ -11,6 +11,7 @@ use answers::Refusal;
 use comlynx_meaning::Address;
 use comlynx_meaning::Addressed;
 use comlynx_meaning::Meaning;
+use drives_meaning::Expected;
 use eversolar_meaning::Energy;
 use eversolar_meaning::Wait;
 use fronius_meaning::measured::Measured;
@@ -65,6 +66,15 @@ fn word_of_address(network: u8, subnet: u8, node: u8) -> [u8; HEAD] {
     match addressed {
         Addressed::Word(w) => told(0, w as u64),
         Addressed::Refused(why) => refused(why),
+    }
+}
+
+fn expected(opening: u8, first: u8, second: u8) -> [u8; HEAD] {
+    let expected = drives_meaning::reply_expected(opening, first, second);
+    match expected {
+        Expected::Reply => told(0, 1),
+        Expected::NoReply => told(0, 0),
+        Expected::Refused(why) => refused(why),
     }
 }
 
@@ -213,12 +223,13 @@ fn of_eversolar(op: u8, s: &[u8], first: &[u8]) -> [u8; HEAD] {
     }
 }
 
-// What data of the other two mean.
+// What messages of the other families mean.
 fn of_others(op: u8, s: &[u8], first: &[u8]) -> [u8; HEAD] {
     match op {
         0x21 => meaning(byte_at(s, 1), first),
         0x22 => address(word_at(s, 1)),
         0x23 => word_of_address(byte_at(s, 1), byte_at(s, 2), byte_at(s, 3)),
+        0x24 => expected(byte_at(s, 1), byte_at(s, 2), byte_at(s, 3)),
         0x41 => measured(first, byte_at(s, 1) == 1),
         _ => reading(byte_at(s, 1), byte_at(s, 2), first),
     }

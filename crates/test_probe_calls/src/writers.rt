@@ -39,11 +39,23 @@ fn eversolar(s: &[u8], payload: &[u8], lent: &mut [u8]) -> Written {
     )
 }
 
+fn drives(s: &[u8], payload: &[u8], lent: &mut [u8]) -> Written {
+    drives::write(
+        byte_at(s, 1),
+        byte_at(s, 2),
+        byte_at(s, 3),
+        byte_at(s, 4),
+        payload,
+        lent,
+    )
+}
+
 fn frame(op: u8, s: &[u8], payload: &[u8], lent: &mut [u8]) -> Written {
     match op {
         0x11 => comlynx::write(word_at(s, 1), word_at(s, 3), byte_at(s, 5), payload, lent),
         0x12 => eversolar(s, payload, lent),
-        _ => fronius::write(byte_at(s, 1), byte_at(s, 2), byte_at(s, 3), payload, lent),
+        0x13 => fronius::write(byte_at(s, 1), byte_at(s, 2), byte_at(s, 3), payload, lent),
+        _ => drives(s, payload, lent),
     }
 }
 

@@ -2,12 +2,16 @@
 use crate::session::Shape;
 use crate::session::unlisted;
 use crate::states::COMLYNX_STATE;
+use crate::states::DRIVES_STATE;
 use crate::states::EVERSOLAR_STATE;
 use crate::states::FRONIUS_STATE;
 use crate::wire::QUAD;
 
 // Where the state of all ports ends, and that of a listing.
-pub(crate) const PORTS_STATE: usize = COMLYNX_STATE + EVERSOLAR_STATE + FRONIUS_STATE;
+pub(crate) const PORTS_STATE: usize = COMLYNX_STATE
+    + EVERSOLAR_STATE
+    + FRONIUS_STATE
+    + DRIVES_STATE;
 
 pub(crate) const LISTING_STATE: usize = PORTS_STATE + 3 * QUAD;
 
@@ -72,6 +76,7 @@ pub(crate) fn shape_of(op: u8) -> Shape {
         0x8a => line(6, 2),
         0x8b => line(7, 2),
         0x8c => line(4, 2),
+        0x8d => line(5, 2),
         _ => unlisted(),
     }
 }

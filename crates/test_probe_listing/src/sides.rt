@@ -2,11 +2,14 @@
 use crate::shapes::PORTS_STATE;
 use crate::states::COMLYNX_STATE;
 use crate::states::EVERSOLAR_STATE;
+use crate::states::FRONIUS_STATE;
 use crate::states::MESSAGE;
 use crate::states::comlynx_state;
+use crate::states::drives_state;
 use crate::states::eversolar_state;
 use crate::states::fronius_state;
 use crate::states::say_comlynx;
+use crate::states::say_drives;
 use crate::states::say_eversolar;
 use crate::states::say_fronius;
 use crate::wire::WORD;
@@ -24,15 +27,24 @@ use test_parts::part;
 // How many bytes are told where all three lists are empty: the number, the bytes used and lost, the length of each list, and how many data bytes there are.
 const TOLD: usize = 1 + 6 * WORD;
 
+// Where the states of the second port, the third and the fourth begin.
+const SECOND: usize = COMLYNX_STATE;
+
+const THIRD: usize = SECOND + EVERSOLAR_STATE;
+
+const FOURTH: usize = THIRD + FRONIUS_STATE;
+
 // A state is read behind the byte that its bytes begin with, be it the opcode or the last of the state before.
 pub(crate) fn ports_of(s: &[u8]) -> Ports {
     let first = comlynx_state(s);
-    let second = eversolar_state(part(s, COMLYNX_STATE, PORTS_STATE));
-    let third = fronius_state(part(s, COMLYNX_STATE + EVERSOLAR_STATE, PORTS_STATE));
+    let second = eversolar_state(part(s, SECOND, PORTS_STATE));
+    let third = fronius_state(part(s, THIRD, PORTS_STATE));
+    let fourth = drives_state(part(s, FOURTH, PORTS_STATE));
     Ports {
         comlynx: first,
         eversolar: second,
         fronius: third,
+        drives: fourth,
     }
 }
 
@@ -40,9 +52,11 @@ pub(crate) fn say_ports(ports: Ports) {
     let first = ports.comlynx;
     let second = ports.eversolar;
     let third = ports.fronius;
+    let fourth = ports.drives;
     say_comlynx(first);
     say_eversolar(second);
     say_fronius(third);
+    say_drives(fourth);
 }
 
 // Puts out what is told of an answer: first its length with all that follows behind it, then the number and the bytes used and lost. Of a message from,
@@ -95,12 +109,20 @@ fn say_fronius_message(h: fronius::Header, used: usize, behind: usize) {
     say_told(MESSAGE, used, 0, b"", &to, &code, h.len, behind);
 }
 
+fn say_drives_message(h: drives::Header, used: usize, behind: usize) {
+    let from = [h.opening];
+    let to = [h.station_first, h.station_second];
+    let code = [h.letter];
+    say_told(MESSAGE, used, 0, &from, &to, &code, h.len, behind);
+}
+
 fn say_answer(answer: Answer, used: usize, behind: usize) {
     match answer {
         Answer::Done => say_number(0, used, 0, behind),
         Answer::ComLynx(h) => say_comlynx_message(h, used, behind),
         Answer::Eversolar(h) => say_eversolar_message(h, used, behind),
         Answer::Fronius(h) => say_fronius_message(h, used, behind),
+        Answer::Drives(h) => say_drives_message(h, used, behind),
         Answer::Damaged { what, lost } => say_number(what.number(), used, lost as usize, behind),
         Answer::Refused(why) => say_number(why.number(), used, 0, behind),
     }

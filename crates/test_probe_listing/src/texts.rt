@@ -48,11 +48,25 @@ fn of_0_2_1(s: &[u8], lent: &mut [u8]) -> Written {
     )
 }
 
+// 1, 2 and 1.
+fn of_1_2_1(s: &[u8], lent: &mut [u8]) -> Written {
+    listing_text::message_1_2_1(
+        byte_at(s, 1),
+        byte_at(s, 2),
+        byte_at(s, 3),
+        byte_at(s, 4),
+        byte_at(s, 5),
+        list_at(s, 6),
+        lent,
+    )
+}
+
 fn message(op: u8, s: &[u8], lent: &mut [u8]) -> Written {
     match op {
         0x8a => of_2_2_1(s, lent),
         0x8b => of_2_2_2(s, lent),
-        _ => of_0_2_1(s, lent),
+        0x8c => of_0_2_1(s, lent),
+        _ => of_1_2_1(s, lent),
     }
 }
 

@@ -9,6 +9,7 @@ use crate::session::read_on;
 use crate::session::read_rest;
 use crate::session::say_lent;
 use crate::shapes::COMLYNX;
+use crate::shapes::DRIVES;
 use crate::shapes::EVERSOLAR;
 use crate::shapes::FRESH;
 use crate::shapes::FRONIUS;
@@ -24,6 +25,7 @@ fn make_with(who: u8, s: &[u8], first: &[u8], lent: &mut [u8], head: usize) {
         COMLYNX => readers::comlynx(s, first, lent, head),
         EVERSOLAR => readers::eversolar(s, first, lent, head),
         FRONIUS => readers::fronius(s, first, lent, head),
+        DRIVES => readers::drives(s, first, lent, head),
         FRESH => readers::fresh(op, head),
         _ => in_place::call(op, s, first, lent),
     }

@@ -2,17 +2,20 @@
 // are then stand behind that.
 use crate::heads::say_head;
 use crate::readers::comlynx_head;
+use crate::readers::drives_head;
 use crate::readers::eversolar_head;
 use crate::readers::fronius_head;
 use crate::shapes::COMLYNX_HEAD;
+use crate::shapes::DRIVES_HEAD;
 use crate::shapes::EVERSOLAR_HEAD;
 use crate::shapes::FRONIUS_HEAD;
+use crate::states::DRIVES_NUMBERS;
 use crate::states::NUMBERS;
+use crate::states::say_counted;
 use crate::wire::WORD;
 use crate::wire::list_at;
 use crate::wire::past_list;
 use crate::wire::put;
-use crate::wire::say;
 use crate::wire::say_list;
 use crate::wire::say_size;
 use crate::wire::size_at;
@@ -25,7 +28,7 @@ use test_parts::part;
 // How many held bytes are lent at most: more than any reader holds.
 const HELD_MAX: usize = 512;
 
-// Where a call has its numbers, and where its lists begin.
+// Where a call has its numbers.
 const STAGE: usize = 1;
 
 const COUNT: usize = 2;
@@ -34,17 +37,13 @@ const LEN: usize = 4;
 
 const CAME: usize = 4;
 
-const LISTS: usize = 1 + NUMBERS;
-
-// The piece stands behind the held bytes.
-fn piece_of(s: &[u8]) -> &[u8] {
-    list_at(s, past_list(s, LISTS))
+// The piece stands behind the held bytes, and these behind the opcode and so many bytes of numbers.
+fn piece_of(s: &[u8], numbers: usize) -> &[u8] {
+    list_at(s, past_list(s, further(1, numbers)))
 }
 
 fn say_numbers(stage: u8, count: usize, last: usize) {
-    let stage = [stage];
-    say(&stage);
-    say_size(count);
+    say_counted(stage, count);
     say_size(last);
 }
 
@@ -54,7 +53,7 @@ fn comlynx(s: &[u8], held: &mut [u8], lent: &mut [u8]) {
         word_at(s, CAME),
         size_at(s, COUNT),
         held,
-        piece_of(s),
+        piece_of(s, NUMBERS),
         lent,
     );
     let answer = step.answer;
@@ -68,7 +67,7 @@ fn eversolar(s: &[u8], held: &mut [u8], lent: &mut [u8]) {
         size_at(s, COUNT),
         size_at(s, LEN),
         held,
-        piece_of(s),
+        piece_of(s, NUMBERS),
         lent,
     );
     let answer = step.answer;
@@ -82,7 +81,7 @@ fn fronius(s: &[u8], held: &mut [u8], lent: &mut [u8]) {
         size_at(s, COUNT),
         size_at(s, LEN),
         held,
-        piece_of(s),
+        piece_of(s, NUMBERS),
         lent,
     );
     let answer = step.answer;
@@ -90,11 +89,25 @@ fn fronius(s: &[u8], held: &mut [u8], lent: &mut [u8]) {
     say_numbers(step.stage, step.count, step.len);
 }
 
+fn drives(s: &[u8], held: &mut [u8], lent: &mut [u8]) {
+    let step = drives::step_in_place(
+        byte_at(s, STAGE),
+        size_at(s, COUNT),
+        held,
+        piece_of(s, DRIVES_NUMBERS),
+        lent,
+    );
+    let answer = step.answer;
+    say_head(drives_head(answer, step.used), DRIVES_HEAD);
+    say_counted(step.stage, step.count);
+}
+
 fn make(op: u8, s: &[u8], held: &mut [u8], lent: &mut [u8]) {
     match op {
         0x07 => comlynx(s, held, lent),
         0x08 => eversolar(s, held, lent),
-        _ => fronius(s, held, lent),
+        0x09 => fronius(s, held, lent),
+        _ => drives(s, held, lent),
     }
 }
 
@@ -103,7 +116,8 @@ fn told_of(op: u8) -> usize {
     match op {
         0x07 => COMLYNX_HEAD + NUMBERS,
         0x08 => EVERSOLAR_HEAD + NUMBERS,
-        _ => FRONIUS_HEAD + NUMBERS,
+        0x09 => FRONIUS_HEAD + NUMBERS,
+        _ => DRIVES_HEAD + DRIVES_NUMBERS,
     }
 }
 

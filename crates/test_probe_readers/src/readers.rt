@@ -5,9 +5,11 @@ use crate::heads::say_head;
 use crate::heads::told;
 use crate::states::MESSAGE;
 use crate::states::comlynx_state;
+use crate::states::drives_state;
 use crate::states::eversolar_state;
 use crate::states::fronius_state;
 use crate::states::say_comlynx;
+use crate::states::say_drives;
 use crate::states::say_eversolar;
 use crate::states::say_fronius;
 use test_parts::high;
@@ -145,6 +147,43 @@ pub(crate) fn fronius(s: &[u8], piece: &[u8], lent: &mut [u8], head: usize) {
     say_fronius(state);
 }
 
+// ---- Drives
+
+fn drives_message(h: drives::Header, used: usize) -> [u8; HEAD] {
+    [
+        MESSAGE,
+        low(used),
+        high(used),
+        0,
+        0,
+        h.opening,
+        h.station_first,
+        h.station_second,
+        h.letter,
+        low(h.len),
+        high(h.len),
+        0,
+        0,
+    ]
+}
+
+pub(crate) fn drives_head(answer: drives::Answer, used: usize) -> [u8; HEAD] {
+    match answer {
+        drives::Answer::Done => no_message(0, used, 0),
+        drives::Answer::Message(h) => drives_message(h, used),
+        drives::Answer::Damaged { what, lost } => no_message(what.number(), used, lost as usize),
+        drives::Answer::Refused(why) => no_message(why.number(), used, 0),
+    }
+}
+
+pub(crate) fn drives(s: &[u8], piece: &[u8], lent: &mut [u8], head: usize) {
+    let step = drives_state(s).step(piece, lent);
+    let answer = step.answer;
+    let state = step.reader;
+    say_head(drives_head(answer, step.used), head);
+    say_drives(state);
+}
+
 // ---- the fresh states
 
 pub(crate) fn fresh(op: u8, head: usize) {
@@ -152,6 +191,7 @@ pub(crate) fn fresh(op: u8, head: usize) {
     match op {
         0x04 => say_comlynx(comlynx::Reader::fresh()),
         0x05 => say_eversolar(eversolar::Reader::fresh()),
-        _ => say_fronius(fronius::Reader::fresh()),
+        0x06 => say_fronius(fronius::Reader::fresh()),
+        _ => say_drives(drives::Reader::fresh()),
     }
 }

@@ -13,6 +13,9 @@ pub(crate) const MESSAGE: u8 = 1;
 // How many bytes the numbers of a state have: the stage, the count, and the length, of ComLynx how many bytes came.
 pub(crate) const NUMBERS: usize = 5;
 
+// Of drives only the stage and the count.
+pub(crate) const DRIVES_NUMBERS: usize = 3;
+
 // Where a reader's held bytes end in a state, and where the state ends.
 pub(crate) const COMLYNX_HELD: usize = 265;
 
@@ -26,6 +29,10 @@ pub(crate) const FRONIUS_HELD: usize = 130;
 
 pub(crate) const FRONIUS_STATE: usize = FRONIUS_HELD + NUMBERS;
 
+pub(crate) const DRIVES_HELD: usize = 42;
+
+pub(crate) const DRIVES_STATE: usize = DRIVES_HELD + DRIVES_NUMBERS;
+
 // Where a state has its numbers behind its held bytes. The byte before the state, an opcode or the last byte of another state, counts too.
 const STAGE: usize = 1;
 
@@ -35,12 +42,17 @@ const LEN: usize = 4;
 
 const CAME: usize = 4;
 
-// Puts out a state, whose last number is its length or how many bytes came.
-fn say_state(held: &[u8], stage: u8, count: usize, last: usize) {
+// Puts out stage and count.
+pub(crate) fn say_counted(stage: u8, count: usize) {
     let stage = [stage];
-    say(held);
     say(&stage);
     say_size(count);
+}
+
+// Puts out a state, whose last number is its length or how many bytes came.
+fn say_state(held: &[u8], stage: u8, count: usize, last: usize) {
+    say(held);
+    say_counted(stage, count);
     say_size(last);
 }
 
@@ -96,4 +108,22 @@ pub(crate) fn fronius_state(s: &[u8]) -> fronius::Reader {
 pub(crate) fn say_fronius(state: fronius::Reader) {
     let held = state.held;
     say_state(&held, state.stage, state.count, state.len);
+}
+
+// ---- Drives
+
+pub(crate) fn drives_state(s: &[u8]) -> drives::Reader {
+    let mut held = [0u8; DRIVES_HELD];
+    put(&mut held, 0, part(s, 1, DRIVES_HELD));
+    drives::Reader {
+        held,
+        stage: byte_at(s, DRIVES_HELD + STAGE),
+        count: size_at(s, DRIVES_HELD + COUNT),
+    }
+}
+
+pub(crate) fn say_drives(state: drives::Reader) {
+    let held = state.held;
+    say(&held);
+    say_counted(state.stage, state.count);
 }
