@@ -5,6 +5,7 @@ use ports::Answer;
 use ports::Ports;
 use test_parts::COMLYNX;
 use test_parts::EVERSOLAR;
+use test_parts::FRONIUS;
 use test_parts::byte_at;
 use test_parts::high;
 use test_parts::low;
@@ -55,12 +56,18 @@ fn fronius_message(h: fronius::Header, used: usize) -> [u8; READ] {
     message(0, word(h.device, h.number), word(h.command, 0), h.len, used)
 }
 
+fn drives_message(h: drives::Header, used: usize) -> [u8; READ] {
+    let station = word(h.station_first, h.station_second);
+    message(word(h.opening, 0), station, word(h.letter, 0), h.len, used)
+}
+
 fn told(answer: Answer, used: usize) -> [u8; READ] {
     match answer {
         Answer::Done => no_message(0, 0, used),
         Answer::ComLynx(h) => comlynx_message(h, used),
         Answer::Eversolar(h) => eversolar_message(h, used),
         Answer::Fronius(h) => fronius_message(h, used),
+        Answer::Drives(h) => drives_message(h, used),
         Answer::Damaged { what, lost } => no_message(what.number(), lost as usize, used),
         Answer::Refused(why) => no_message(why.number(), 0, used),
     }
@@ -93,7 +100,15 @@ pub(crate) fn write(port: u8, header: &[u8], payload: &[u8], lent: &mut [u8]) ->
             payload,
             lent,
         ),
-        _ => fronius::write(
+        FRONIUS => fronius::write(
+            byte_at(header, 2),
+            byte_at(header, 3),
+            byte_at(header, 4),
+            payload,
+            lent,
+        ),
+        _ => drives::write(
+            byte_at(header, 0),
             byte_at(header, 2),
             byte_at(header, 3),
             byte_at(header, 4),

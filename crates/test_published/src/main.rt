@@ -9,6 +9,7 @@ use families::write;
 use libc::STDIN_FILENO;
 use libc::STDOUT_FILENO;
 use test_parts::COMLYNX;
+use test_parts::DRIVES;
 use test_parts::EVERSOLAR;
 use test_parts::FRONIUS;
 use test_parts::byte_at;
@@ -161,7 +162,8 @@ fn port_of(document: u8) -> u8 {
     match document {
         0 => COMLYNX,
         1 => EVERSOLAR,
-        _ => FRONIUS,
+        2 => FRONIUS,
+        _ => DRIVES,
     }
 }
 
