@@ -88,7 +88,8 @@ fn the_end(listing: &Listing, stop: Option<u8>, lent: &mut [u8]) -> Step {
 }
 
 /// The packet's piece goes to its port's reader, "called on until it is used up"; "one line
-/// for each message or damage".
+/// for each message or damage". The reader is lent enough, so that it refuses a spoilt state and
+/// nothing else: every other number that comes without a message is a damage, 21 too.
 fn take(listing: &mut Listing, packet: &Packet, input: &[u8], lent: &mut [u8]) -> Step {
     let port = packet.port;
     let mut piece = &input[packet.used - usize::from(packet.count)..packet.used];

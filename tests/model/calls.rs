@@ -1,9 +1,13 @@
 //! Calls of the programs `test_probe_..`: sweeps over every limit, and random ones.
 
+use crate::drives_calls::{
+    drives_counts, drives_sweep, drives_writer_lead, drives_writer_payload, frame_chain,
+    random_reply,
+};
 use crate::in_place_calls::{in_place_chain, in_place_sweep, random_in_place, too_many_held};
 use crate::listing_calls::{
-    line_sweep, listing_chain, listing_sweep, port_chain, port_sweep, random_line,
-    random_listing, random_port, random_word, word_sweep,
+    line_sweep, listing_chain, listing_sweep, port_chain, port_sweep, random_line, random_listing,
+    random_port, random_word, word_sweep,
 };
 use crate::random::Random;
 use crate::streams::{self, Family, FAMILIES};
@@ -76,12 +80,14 @@ impl Making {
 
 // ---- readers ----
 
-/// How a family's reader is called: its opcode, the bytes it holds, the bytes of its state, and
-/// where the state stands in a result.
+/// How a family's reader is called: its opcodes, by value, fresh and in place, the bytes it holds,
+/// the bytes of its state, and where the state stands in a result.
 #[derive(Clone, Copy)]
 pub struct Shape {
-    family: Family,
+    pub family: Family,
     pub op: u8,
+    fresh: u8,
+    pub in_place: u8,
     pub held: usize,
     pub state: usize,
     state_in_result: usize,
@@ -96,6 +102,8 @@ pub fn shape(family: Family) -> Shape {
         Family::ComLynx => Shape {
             family,
             op: 0x01,
+            fresh: 0x04,
+            in_place: 0x07,
             held: 265,
             state: 270,
             state_in_result: 12,
@@ -107,6 +115,8 @@ pub fn shape(family: Family) -> Shape {
         Family::Eversolar => Shape {
             family,
             op: 0x02,
+            fresh: 0x05,
+            in_place: 0x08,
             held: 263,
             state: 268,
             state_in_result: 13,
@@ -118,6 +128,8 @@ pub fn shape(family: Family) -> Shape {
         Family::Fronius => Shape {
             family,
             op: 0x03,
+            fresh: 0x06,
+            in_place: 0x09,
             held: 130,
             state: 135,
             state_in_result: 10,
@@ -126,21 +138,35 @@ pub fn shape(family: Family) -> Shape {
             grid: "Fronius reader, limits of the state",
             lent: "Fronius reader, every lent length",
         },
+        Family::Drives => Shape {
+            family,
+            op: 0x0A,
+            fresh: 0x0B,
+            in_place: 0x0C,
+            held: 42,
+            state: 45,
+            state_in_result: 11,
+            chain: "drives reader, stream in pieces",
+            forged: "drives reader, forged state",
+            grid: "drives reader, limits of the state",
+            lent: "drives reader, every lent length",
+        },
     }
 }
 
 pub fn fresh_state(shape: Shape) -> Vec<u8> {
-    let result = probe::answer(&[shape.op + 3]).expect("a fresh state needs no argument");
+    let result = probe::answer(&[shape.fresh]).expect("a fresh state needs no argument");
     result[1..].to_vec()
 }
 
 /// A state out of its parts, of which the last is how many bytes came for ComLynx and the length
-/// for the others.
-pub fn state_of(held: &[u8], stage: u8, count: u16, last: u16) -> Vec<u8> {
+/// for Eversolar and Fronius; drives have none.
+pub fn state_of(shape: Shape, held: &[u8], stage: u8, count: u16, last: u16) -> Vec<u8> {
     let mut state = held.to_vec();
     state.push(stage);
     state.extend(count.to_le_bytes());
     state.extend(last.to_le_bytes());
+    state.truncate(shape.state);
     state
 }
 
@@ -205,17 +231,24 @@ pub fn forged_call(family: Family, random: &mut Random) -> Call {
 }
 
 fn state_of_numbers(shape: Shape, random: &mut Random) -> (Vec<u8>, Vec<u8>) {
-    let held = random.content(shape.held);
-    let stage = random.pick(&[0, 1, 1, 2, 2, 3, 3, 4, 255]);
-    let last = match shape.family {
+    let family = shape.family;
+    let held = family.content(random, shape.held);
+    let stage = match family {
+        Family::Drives => random.pick(&[0, 5, 5, 5, 6, 6, 0x15, 0x15, 4, 7, 0x14, 0x16, 255]),
+        _ => random.pick(&[0, 1, 1, 2, 2, 3, 3, 4, 255]),
+    };
+    let last = match family {
         Family::ComLynx => any_came(random),
         _ => random.pick(&[0, 0, 1, 2, 126, 127, 128, 254, 255, 256, 65_535]),
     };
     let near: u16 = random.pick(&[0, 0, 3, 7, 8, 9, 263, 265]);
     let with_last = near.wrapping_add(random.pick(&[0, 0, last]));
-    let count = with_last.wrapping_add(random.pick(&[0, 0, 1, 2, 65_535]));
+    let count = match family {
+        Family::Drives => random.pick(&drives_counts()),
+        _ => with_last.wrapping_add(random.pick(&[0, 0, 1, 2, 65_535])),
+    };
     let piece_length = random.pick(&[0, 1, 2, 5, 20, 300]);
-    (state_of(&held, stage, count, last), random.specials(piece_length))
+    (state_of(shape, &held, stage, count, last), family.specials(random, piece_length))
 }
 
 /// How many bytes came: few, or so many that the next ones reach 65,535 or pass it.
@@ -233,7 +266,7 @@ pub fn state_on_the_way(shape: Shape, random: &mut Random) -> (Vec<u8>, Vec<u8>)
         false => streams::frame(shape.family, random),
     };
     let (first, second) = frame.split_at(random.between(0, frame.len() - 1));
-    let begin = state_of(&random.specials(shape.held), 0, 0, 0);
+    let begin = state_of(shape, &shape.family.specials(random, shape.held), 0, 0, 0);
     let call = reader_call(shape, &begin, first, &[0; 255]).bytes;
     let (_, _, mut state) = after(shape, &call);
     if random.one_in(2) {
@@ -241,11 +274,15 @@ pub fn state_on_the_way(shape: Shape, random: &mut Random) -> (Vec<u8>, Vec<u8>)
     }
     if random.one_in(3) {
         let position = random.below(shape.held);
-        state[position] = random.special();
+        state[position] = shape.family.special(random);
     }
     if shape.family == Family::ComLynx && random.one_in(3) {
         let came = any_came(random);
         state[shape.state - 2..].copy_from_slice(&came.to_le_bytes());
+    }
+    if shape.family == Family::Drives && random.one_in(6) {
+        let count = random.pick(&drives_counts());
+        state[shape.state - 2..].copy_from_slice(&count.to_le_bytes());
     }
     let mut piece = second.to_vec();
     if random.one_in(3) {
@@ -257,7 +294,7 @@ pub fn state_on_the_way(shape: Shape, random: &mut Random) -> (Vec<u8>, Vec<u8>)
 /// The stage, the count or the last number by one or two more or less.
 fn spoil_a_number(shape: Shape, state: &mut [u8], random: &mut Random) {
     let offset = random.pick(&[0, 1, 1, 2, 3, 3]);
-    let byte = &mut state[shape.held + offset];
+    let byte = &mut state[(shape.held + offset).min(shape.state - 1)];
     *byte = byte.wrapping_add(random.pick(&[1, 1, 2, 254, 255, 255]));
 }
 
@@ -270,12 +307,17 @@ pub fn grid_calls(family: Family, random: &mut Random) -> Vec<Call> {
         Family::ComLynx => &[0, 1, 65_533, 65_535],
         Family::Eversolar => &[0, 1, 254, 255, 256, 65_535],
         Family::Fronius => &[0, 1, 126, 127, 128, 65_535],
+        Family::Drives => &[0],
     };
-    for stage in [0, 1, 2, 3, 4, 255] {
+    let stages: &[u8] = match family {
+        Family::Drives => &[0, 5, 6, 0x15, 1, 2, 3, 4, 7, 14, 16, 20, 22, 255],
+        _ => &[0, 1, 2, 3, 4, 255],
+    };
+    for &stage in stages {
         for &last in lasts {
             for count in counts_for(family, last) {
-                let held = random.content(shape.held);
-                let state = state_of(&held, stage, count, last);
+                let held = family.content(random, shape.held);
+                let state = state_of(shape, &held, stage, count, last);
                 calls_on_a_state(shape, &state, random, &mut calls);
             }
         }
@@ -307,6 +349,7 @@ fn counts_for(family: Family, last: u16) -> Vec<u16> {
             let whole = last.saturating_add(3);
             vec![0, 1, 2, 3, 4, whole - 1, whole, whole.saturating_add(1), 65_535]
         }
+        Family::Drives => drives_counts().to_vec(),
     }
 }
 
@@ -340,6 +383,17 @@ fn telling_pieces(family: Family) -> &'static [&'static [u8]] {
             &[0x7F],
             &[0x00, 0x01, 0x02],
             &[0xFF, 0x80, 0x80, 0x80],
+        ],
+        Family::Drives => &[
+            &[],
+            &[0x04],
+            &[0x05],
+            &[0x30, 0x04],
+            &[0x05, 0x04],
+            &[0x15, 0x06, 0x05],
+            &[0x11, 0x22, 0x33],
+            &[0x04, 0x05, 0x04],
+            &[0x05, 0x30, 0x31, 0x52, 0x33, 0x30, 0x30, 0x30, 0x31, 0x41, 0x37, 0x04],
         ],
     }
 }
@@ -376,7 +430,8 @@ fn came_sweep(random: &mut Random, calls: &mut Vec<Call>) {
         for count in [0, 1, 10, 265, 266] {
             let near = [65_279, 65_280].into_iter().chain(65_529..=65_535);
             for came in [0, 1, 2, 254, 255, 256].into_iter().chain(near) {
-                let state = state_of(&random.content(shape.held), stage, count, came);
+                let held = random.content(shape.held);
+                let state = state_of(shape, &held, stage, count, came);
                 for length in [0, random.between(1, 7), random.pick(&[255, 256, 300])] {
                     let mut piece = streams::without_flags(random, length);
                     if length == 0 || random.one_in(2) {
@@ -422,7 +477,8 @@ fn lengths_lost(family: Family, random: &mut Random, calls: &mut Vec<Call>) {
         let lent = random.bytes(255);
         calls.push(reader_call(shape, &fresh_state(shape), &frame, &lent).from(LENGTHS_LOST));
         let count = held_beside_the_payload + length as u16;
-        let state = state_of(&random.content(shape.held), body, count, length as u16);
+        let held = random.content(shape.held);
+        let state = state_of(shape, &held, body, count, length as u16);
         calls.push(reader_call(shape, &state, &random.bytes(1), &lent).from(LENGTHS_LOST));
     }
 }
@@ -434,7 +490,8 @@ fn further_starts(random: &mut Random, calls: &mut Vec<Call>) {
     for further in [0, 1, 2, 3, 4, 5, 100, 300] {
         for counted in 0..=3 {
             for wrong in [&[0x81][..], &[0xFF], &[0, 0, 0, 1, 2], &[2, 1, 1, 0x10, 4, 0xD2, 0]] {
-                let state = state_of(&random.content(shape.held), 0, counted, 0);
+                let held = random.content(shape.held);
+                let state = state_of(shape, &held, 0, counted, 0);
                 let starts = usize::from(3 - counted) + further;
                 let piece = [&vec![0x80; starts], wrong].concat();
                 let lent = random.bytes(255);
@@ -456,7 +513,8 @@ fn lost_sweep(random: &mut Random, calls: &mut Vec<Call>) {
 fn stretch_chain(_: Family, random: &mut Random, calls: &mut Vec<Call>) {
     let shape = shape(Family::ComLynx);
     let (stage, count) = (random.between(1, 3) as u8, random.pick(&[0, 0, 1, 9, 250, 266]));
-    let mut state = state_of(&random.specials(shape.held), stage, count, any_came(random));
+    let (held, came) = (random.specials(shape.held), any_came(random));
+    let mut state = state_of(shape, &held, stage, count, came);
     let longest_piece = random.pick(&[1, 2, 10, 60]);
     for order in 0..=30 {
         let length = random.between(0, longest_piece);
@@ -488,13 +546,15 @@ fn reader_lent_lengths(family: Family, random: &mut Random, calls: &mut Vec<Call
 
 // ---- writers ----
 
-const WRITERS: [&str; 3] = ["ComLynx writer", "Eversolar writer", "Fronius writer"];
+const WRITERS: [&str; 4] =
+    ["ComLynx writer", "Eversolar writer", "Fronius writer", "drives writer"];
 
-fn writer_call(family: Family, lead: &[u8], payload: &[u8], lent: &[u8]) -> Call {
+pub fn writer_call(family: Family, lead: &[u8], payload: &[u8], lent: &[u8]) -> Call {
     let (making, generator) = match family {
         Family::ComLynx => (op(0x11).raw(&lead[..5]), WRITERS[0]),
         Family::Eversolar => (op(0x12).raw(&lead[..6]), WRITERS[1]),
         Family::Fronius => (op(0x13).raw(&lead[..3]), WRITERS[2]),
+        Family::Drives => (op(0x14).raw(&lead[..4]), WRITERS[3]),
     };
     making.list(payload).list(lent).from(generator)
 }
@@ -510,7 +570,10 @@ fn exact_length(family: Family, lead: &[u8], payload: &[u8]) -> usize {
 }
 
 fn writer_with_telling_room(family: Family, random: &mut Random, payload: &[u8]) -> Call {
-    let lead = random.specials(6);
+    let lead = match family {
+        Family::Drives => drives_writer_lead(random),
+        _ => random.specials(6),
+    };
     let exact = exact_length(family, &lead, payload);
     let room = match random.below(6) {
         0 => exact - 1,
@@ -528,7 +591,10 @@ fn random_writer(family: Family, random: &mut Random) -> Call {
     if random.one_in(8) {
         length = family.most_payload() + random.pick(&[0, 1, 2, 129, 16_129]);
     }
-    let payload = random.content(length);
+    let payload = match family {
+        Family::Drives => drives_writer_payload(random, length),
+        _ => random.content(length),
+    };
     writer_with_telling_room(family, random, &payload)
 }
 
@@ -961,13 +1027,29 @@ fn packet_write_call(port: u8, piece: &[u8], lent: &[u8]) -> Call {
 
 /// A packet of 27 bytes, wrong where a bit of `wrong` says so: mark, version, port, count.
 pub fn lead_with(wrong: u8, random: &mut Random) -> Vec<u8> {
-    let mut packet = packet::packet(1, &random.bytes(20));
-    for (bit, position, value) in [(0, 2, b'S'), (1, 4, 2), (2, 5, 4), (3, 6, 241)] {
+    let mut packet = packet::packet(random.between(1, 4) as u8, &random.bytes(20));
+    for (bit, position, value) in [(0, 2, b'S'), (1, 4, 3), (2, 5, 5), (3, 6, 241)] {
         if wrong >> bit & 1 == 1 {
             packet[position] = value;
         }
     }
     packet
+}
+
+/// Leads of every version about the known ones with every port about the four, and with counts
+/// about their limits.
+pub fn versions_and_ports() -> Vec<Vec<u8>> {
+    let mut leads = Vec::new();
+    for version in
+        [[0, 0], [0, 1], [0, 2], [0, 3], [0, 4], [1, 0], [1, 1], [2, 0], [2, 2], [255, 2]]
+    {
+        for port in [0, 1, 2, 3, 4, 5, 6, 0x40, 255] {
+            for count in [0, 1, 240, 241] {
+                leads.push([b"SBR", &version[..], &[port, count]].concat());
+            }
+        }
+    }
+    leads
 }
 
 fn packet_sweep(random: &mut Random, calls: &mut Vec<Call>) {
@@ -976,12 +1058,19 @@ fn packet_sweep(random: &mut Random, calls: &mut Vec<Call>) {
         calls.push(packet_call(&whole[..length]));
     }
     for position in 0..7 {
-        for value in [0, 1, 2, 3, 4, 0x42, 0x52, 0x53, 240, 241, 255] {
+        for value in [0, 1, 2, 3, 4, 5, 0x42, 0x52, 0x53, 240, 241, 255] {
             for length in [6, 7, 8, 10, 247, 300] {
-                let mut packet = [packet::packet(1, &[9]), vec![9; 300]].concat();
+                let port = random.pick(&[1, 4]);
+                let mut packet = [packet::packet(port, &[9]), vec![9; 300]].concat();
                 packet[position] = value;
                 calls.push(packet_call(&packet[..length]));
             }
+        }
+    }
+    for lead in versions_and_ports() {
+        for length in [7, 8, 300] {
+            let packet = [&lead[..], &[9; 300]].concat();
+            calls.push(packet_call(&packet[..length]));
         }
     }
     for wrong in 0..16 {
@@ -989,7 +1078,7 @@ fn packet_sweep(random: &mut Random, calls: &mut Vec<Call>) {
             calls.push(packet_call(&lead_with(wrong, random)[..length]));
         }
     }
-    for port in [0, 1, 2, 3, 4, 255] {
+    for port in [0, 1, 2, 3, 4, 5, 255] {
         for length in [0, 1, 2, 239, 240, 241, 255, 256, 257, 300] {
             for room in [0, length + 6, length + 7, length + 8] {
                 let (piece, lent) = (random.content(length), random.bytes(room));
@@ -1004,9 +1093,9 @@ fn random_packet(random: &mut Random) -> Call {
     let piece = random.content(length);
     if random.one_in(3) {
         let room = length + random.pick(&[0, 6, 7, 8, 100]);
-        return packet_write_call(random.below(5) as u8, &piece, &random.bytes(room));
+        return packet_write_call(random.below(6) as u8, &piece, &random.bytes(room));
     }
-    let mut packet = packet::packet(random.between(1, 3) as u8, &piece);
+    let mut packet = packet::packet(random.between(1, 4) as u8, &piece);
     for _ in 0..random.below(3) {
         streams::spoil_a_lead(&mut packet, random);
     }
@@ -1063,7 +1152,7 @@ fn random_checksum(random: &mut Random) -> Call {
 }
 
 fn fresh_calls(calls: &mut Vec<Call>) {
-    for fresh in [0x04, 0x05, 0x06, 0x86, 0x88] {
+    for fresh in [0x04, 0x05, 0x06, 0x0B, 0x86, 0x88] {
         calls.push(op(fresh).from("fresh state"));
     }
 }
@@ -1079,8 +1168,11 @@ pub fn sweeps(random: &mut Random) -> Vec<Call> {
     for family in FAMILIES {
         calls.extend(grid_calls(family, random));
         reader_lent_lengths(family, random, &mut calls);
+    }
+    for family in [Family::ComLynx, Family::Eversolar, Family::Fronius] {
         writer_sweep(family, random, &mut calls);
     }
+    drives_sweep(random, &mut calls);
     in_place_sweep(random, &mut calls);
     meaning_sweep(random, &mut calls);
     address_sweep(random, &mut calls);
@@ -1103,9 +1195,10 @@ pub fn random_calls(random: &mut Random, count: usize) -> Vec<Call> {
     let mut calls = Vec::new();
     while calls.len() < count {
         let family = random.pick(&FAMILIES);
-        match random.below(42) {
+        match random.below(43) {
             0 => {
-                let chains = [reader_chain, reader_chain, in_place_chain, stretch_chain];
+                let longest = if family == Family::Drives { frame_chain } else { stretch_chain };
+                let chains = [reader_chain, reader_chain, in_place_chain, longest];
                 let chain = random.pick(&chains);
                 chain(family, random, &mut calls);
             }
@@ -1133,6 +1226,7 @@ pub fn random_calls(random: &mut Random, count: usize) -> Vec<Call> {
                 chain(random, &mut calls);
             }
             37 | 38 => calls.push(random_in_place(family, random)),
+            39 => calls.push(random_reply(random)),
             _ => calls.push(random_checksum(random)),
         }
     }
@@ -1164,8 +1258,8 @@ fn too_long_a_list(program: usize, random: &mut Random) -> Vec<u8> {
 pub fn broken_ending(program: usize, random: &mut Random) -> Call {
     let broken = match random.between(0, 3) {
         0 => vec![random.pick(&[
-            0x00, 0x0A, 0x10, 0x14, 0x24, 0x30, 0x38, 0x43, 0x50, 0x57, 0x63, 0x70, 0x76, 0x80,
-            0x82, 0x8D, 0xFF,
+            0x00, 0x0D, 0x10, 0x15, 0x25, 0x30, 0x38, 0x43, 0x50, 0x57, 0x63, 0x70, 0x76, 0x80,
+            0x82, 0x8E, 0xFF,
         ])],
         1 => call_of((program + random.between(1, 2)) % 3, random),
         2 => too_long_a_list(program, random),

@@ -143,7 +143,7 @@ fn stands_for(mate: u8) -> Option<u8> {
 /// its length less 10, else 5; the checksum agrees, else 6."
 fn judge_body(body: &[u8]) -> Verdict<Message> {
     if body.len() < SHORTEST_BODY || body.len() > LONGEST_BODY {
-        return Err(number::WRONG_BODY_LENGTH);
+        return Err(number::WRONG_WHOLE_LENGTH);
     }
     if body[0] != 0xFF || body[1] != 0x03 {
         return Err(number::WRONG_START);
@@ -241,7 +241,7 @@ fn judge_at_a_flag(state: &State) -> Option<Verdict<Message>> {
     match state.stage {
         BEFORE_A_FLAG => None,
         IN_A_STRETCH if state.count == 0 => None,
-        IN_A_STRETCH if state.count == OVERFULL => Some(Err(number::WRONG_BODY_LENGTH)),
+        IN_A_STRETCH if state.count == OVERFULL => Some(Err(number::WRONG_WHOLE_LENGTH)),
         IN_A_STRETCH => Some(judge_body(&state.held[..usize::from(state.count)])),
         _ => Some(Err(number::BROKEN_PAIR)),
     }

@@ -1,9 +1,11 @@
 //! Drives the programs and the model on the same cases and compares every byte.
 
 mod calls;
+mod drives_calls;
 mod fields;
 mod in_place_calls;
 mod known;
+mod known_drives;
 mod listing_calls;
 mod programs;
 mod random;
@@ -156,7 +158,7 @@ fn jobs(run: &Run, sweeps: usize) -> Vec<Job> {
             jobs.push(Job::FullListing(order));
         }
     }
-    let two_ways = (0..4).map(Job::TwoWays);
+    let two_ways = (0..=streams::FAMILIES.len()).map(Job::TwoWays);
     let known: Vec<Job> =
         [Job::KnownCalls, Job::KnownListings].into_iter().chain(two_ways).collect();
     let mut jobs = match run.sbrlist {
@@ -243,7 +245,7 @@ fn full_listing_input(case: usize, random: &mut Random) -> Vec<u8> {
         1 => (65_536, b"S"),
         2 => (65_537, b""),
         3 => (65_535, b"SBR\x00\x01\x01"),
-        4 => (65_536, b"SBR\x00\x02\x01\x01\x00"),
+        4 => (65_536, b"SBR\x00\x02\x04\x01\x04"),
         _ => (65_536, b"\x00"),
     };
     streams::long_listing_input(random, packets, tail)

@@ -1,7 +1,7 @@
 //! Results of the programs `test_probe_..` in words, for the report of a disagreement.
 
 /// The fields of PORTS.
-const PORTS: [(&str, usize); 12] = [
+const PORTS: [(&str, usize); 15] = [
     ("ComLynx held", 265),
     ("ComLynx stage", 1),
     ("ComLynx count", 2),
@@ -14,6 +14,9 @@ const PORTS: [(&str, usize); 12] = [
     ("Fronius stage", 1),
     ("Fronius count", 2),
     ("Fronius length", 2),
+    ("drives held", 42),
+    ("drives stage", 1),
+    ("drives count", 2),
 ];
 
 const COUNTS: [(&str, usize); 3] = [("packets", 8), ("messages", 8), ("damages", 8)];
@@ -122,12 +125,38 @@ fn other_fields_of(op: u8) -> &'static [(&'static str, usize)] {
             ("held", 0),
             ("lent", 0),
         ],
-        0x11..=0x13 | 0x31..=0x33 | 0x62 | 0x81 | 0x83..=0x85 | 0x8A..=0x8C => {
+        0x0A => &[
+            ("used", 2),
+            ("lost", 2),
+            ("opening", 1),
+            ("station", 2),
+            ("letter", 1),
+            ("length", 2),
+            ("held", 42),
+            ("stage", 1),
+            ("count", 2),
+            ("lent", 0),
+        ],
+        0x0B => &[("held", 42), ("stage", 1), ("count", 2)],
+        0x0C => &[
+            ("used", 2),
+            ("lost", 2),
+            ("opening", 1),
+            ("station", 2),
+            ("letter", 1),
+            ("length", 2),
+            ("stage", 1),
+            ("count", 2),
+            ("held", 0),
+            ("lent", 0),
+        ],
+        0x11..=0x14 | 0x31..=0x33 | 0x62 | 0x81 | 0x83..=0x85 | 0x8A..=0x8D => {
             &[("length", 2), ("lent", 0)]
         }
         0x21 => &[("kind", 1), ("id", 1), ("code", 1)],
         0x22 => &[("network", 1), ("subnet", 1), ("node", 1)],
         0x23 => &[("word", 2)],
+        0x24 => &[("expected", 1)],
         0x34 => &[("tenths", 4)],
         0x35 => &[("units", 8)],
         0x36 => &[("word", 2)],

@@ -14,14 +14,11 @@ const LENT: &str = "readers in place, lent lengths";
 const FORGED: &str = "readers in place, forged states";
 const CHAIN: &str = "readers in place, streams in pieces";
 
-/// An opcode of a reader in place is that of the reader and so much.
-const IN_PLACE: u8 = 6;
-
 /// The lengths that are right for a family and those about them, those with the same low byte, and
 /// those about what is lent at most. For each family all but one are wrong.
-const HELD_LENGTHS: [usize; 26] = [
-    0, 1, 7, 9, 129, 130, 131, 255, 256, 262, 263, 264, 265, 266, 267, 386, 511, 512, 513, 519,
-    521, 642, 775, 777, 1000, 16_384,
+const HELD_LENGTHS: [usize; 31] = [
+    0, 1, 7, 9, 41, 42, 43, 129, 130, 131, 255, 256, 262, 263, 264, 265, 266, 267, 298, 386, 511,
+    512, 513, 519, 521, 554, 642, 775, 777, 1000, 16_384,
 ];
 
 /// A reader's call made in place, with so many held bytes lent.
@@ -31,7 +28,7 @@ fn in_place(shape: Shape, call: &Call, length: usize, random: &mut Random) -> Ma
     let mut held = held.to_vec();
     held.extend(random.bytes(length.saturating_sub(shape.held)));
     held.truncate(length);
-    op(shape.op + IN_PLACE).raw(numbers).list(&held).raw(rest)
+    op(shape.in_place).raw(numbers).list(&held).raw(rest)
 }
 
 pub fn in_place_sweep(random: &mut Random, calls: &mut Vec<Call>) {
@@ -73,7 +70,7 @@ fn lent_lengths(family: Family, random: &mut Random, calls: &mut Vec<Call>) {
         let payload = random.content(family.most_payload());
         let frame = streams::frame_with(family, random, payload);
         let mut state = fresh_state(shape);
-        state[..shape.held].copy_from_slice(&random.content(shape.held));
+        state[..shape.held].copy_from_slice(&family.content(random, shape.held));
         let call = reader_call(shape, &state, &frame, &random.bytes(length)).from(LENT);
         calls.push(in_place(shape, &call, shape.held, random).from(LENT));
     }
@@ -101,6 +98,6 @@ pub fn too_many_held(random: &mut Random) -> Making {
     let shape = shape(random.pick(&FAMILIES));
     let numbers = vec![0; shape.state - shape.held];
     let length = random.pick(&[16_385, 16_386]);
-    let making = op(shape.op + IN_PLACE).raw(&numbers).list(&random.bytes(length));
+    let making = op(shape.in_place).raw(&numbers).list(&random.bytes(length));
     making.list(&[]).list(&[0; 255])
 }

@@ -1,6 +1,9 @@
 //! The numbers the paper prints: P1 to P12, L1, and published examples of 000, with their
 //! answers written out. Eversolar's words go as document 02, Req 03, has them; the cases N1 to N16
-//! are of its Req 09, the bytes lost with each damage.
+//! are of its Req 09, the bytes lost with each damage. What is known of drives is a source of its
+//! own.
+
+use crate::known_drives;
 
 #[derive(Clone)]
 pub struct KnownCall {
@@ -16,18 +19,18 @@ pub struct KnownListing {
     pub output: String,
 }
 
-fn bytes(hex: &str) -> Vec<u8> {
+pub fn bytes(hex: &str) -> Vec<u8> {
     hex.split_whitespace().map(|byte| u8::from_str_radix(byte, 16).expect("hex")).collect()
 }
 
-fn known(name: &'static str, call: &str, result: &str) -> KnownCall {
+pub fn known(name: &'static str, call: &str, result: &str) -> KnownCall {
     KnownCall { name, call: bytes(call), result: bytes(result) }
 }
 
 /// Calls whose results are known to the last byte.
 pub fn calls() -> Vec<KnownCall> {
     let calls = [short_calls(), calls_of_req_03(), calls_of_l1(), calls_in_place()];
-    [calls.concat(), bytes_come(), bytes_lost()].concat()
+    [calls.concat(), bytes_come(), bytes_lost(), known_drives::calls()].concat()
 }
 
 fn short_calls() -> Vec<KnownCall> {
@@ -111,35 +114,35 @@ fn eversolar_read(name: &'static str, frame: &str, told: &str, payload: &[u8]) -
     KnownCall { name, call, result: [bytes(told), later, lent_with(payload, 255)].concat() }
 }
 
-const HEADER: &str = "port answer from to code data\n";
+pub const HEADER: &str = "port answer from to code data\n";
 const LINE: &str = "1 1 0002 11FF 15 -\n";
 const END: &str = "end 1 0\n";
 
-fn list(bytes: &[u8]) -> Vec<u8> {
+pub fn list(bytes: &[u8]) -> Vec<u8> {
     [&(bytes.len() as u16).to_le_bytes(), bytes].concat()
 }
 
 /// A call that writes a line into exactly its room.
-fn line(name: &'static str, call: &[u8], text: &str) -> KnownCall {
+pub fn line(name: &'static str, call: &[u8], text: &str) -> KnownCall {
     let call = [call, &list(&vec![0xEE; text.len()])].concat();
     let length = (text.len() as u16).to_le_bytes();
     KnownCall { name, call, result: [&[0], &length[..], &list(text.as_bytes())].concat() }
 }
 
 /// PORTS with nothing held but the body of L1's frame, which a ComLynx reader has at `stage`.
-fn ports(stage: u8, body: &[u8]) -> Vec<u8> {
-    let mut ports = vec![0; 270 + 268 + 135];
+pub fn ports(stage: u8, body: &[u8]) -> Vec<u8> {
+    let mut ports = vec![0; 270 + 268 + 135 + 45];
     ports[..body.len()].copy_from_slice(body);
     ports[265] = stage;
     ports
 }
 
-fn counts(packets: u64, messages: u64) -> Vec<u8> {
+pub fn counts(packets: u64, messages: u64) -> Vec<u8> {
     [packets, messages, 0].map(u64::to_le_bytes).concat()
 }
 
 /// The text or the payload at the front of a lent buffer of EE.
-fn lent_with(front: impl AsRef<[u8]>, length: usize) -> Vec<u8> {
+pub fn lent_with(front: impl AsRef<[u8]>, length: usize) -> Vec<u8> {
     let mut lent = front.as_ref().to_vec();
     lent.resize(length, 0xEE);
     list(&lent)
@@ -195,7 +198,7 @@ fn calls_of_l1() -> Vec<KnownCall> {
 
 /// A fresh reader in place is called once on a whole frame. Its host lends bytes of DD, which stay
 /// where nothing of the frame is held. `told` ends with the numbers of the state.
-fn read_in_place(
+pub fn read_in_place(
     name: &'static str,
     fresh: &str,
     held: usize,
@@ -349,14 +352,15 @@ fn fronius_read(name: &'static str, frame: &str, told: &str, held_later: &str) -
     KnownCall { name, call, result: [bytes(told), vec![0; 5], later, lent_with("", 255)].concat() }
 }
 
-fn packet_of(port: u8, piece: &[u8]) -> Vec<u8> {
-    let mut packet = b"SBR\x00\x01".to_vec();
-    packet.extend([port, piece.len() as u8]);
+/// The version is 00 02 for port 4, and 00 01 for the others.
+pub fn packet_of(port: u8, piece: &[u8]) -> Vec<u8> {
+    let mut packet = b"SBR\x00".to_vec();
+    packet.extend([1 + u8::from(port == 4), port, piece.len() as u8]);
     packet.extend(piece);
     packet
 }
 
-fn listing(name: &'static str, packets: &[(u8, &str)], output: &str) -> KnownListing {
+pub fn listing(name: &'static str, packets: &[(u8, &str)], output: &str) -> KnownListing {
     let input = packets.iter().flat_map(|&(port, piece)| packet_of(port, &bytes(piece))).collect();
     KnownListing { name, input, output: output.to_string() }
 }
@@ -366,6 +370,7 @@ pub fn listings() -> Vec<KnownListing> {
     let mut listings = listings_of_document_01();
     listings.extend(short_listings_of_req_09());
     listings.extend(long_listings_of_req_09());
+    listings.extend(known_drives::listings());
     listings
 }
 
@@ -525,7 +530,7 @@ fn repeated(parts: &[(&str, usize)]) -> Vec<u8> {
 }
 
 /// The bytes of a port in packets of `cut` bytes; the last may have fewer.
-fn cut_by(cut: usize, port: u8, parts: &[(&str, usize)]) -> Vec<u8> {
+pub fn cut_by(cut: usize, port: u8, parts: &[(&str, usize)]) -> Vec<u8> {
     repeated(parts).chunks(cut).flat_map(|piece| packet_of(port, piece)).collect()
 }
 

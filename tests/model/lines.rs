@@ -1,7 +1,7 @@
 //! The lines of the listing, each with its 0A.
 
 use crate::number;
-use crate::{comlynx, eversolar, fronius, hand_over, not_written, Written};
+use crate::{comlynx, drives, eversolar, fronius, hand_over, not_written, Written};
 
 /// What a message's line tells after the port and the answer, field after field, as bytes.
 pub struct Fields {
@@ -38,6 +38,17 @@ pub fn of_fronius(message: &fronius::Message) -> Fields {
         from: vec![],
         to: vec![message.device, message.number],
         code: vec![message.command],
+        payload: message.payload.clone(),
+    }
+}
+
+/// Document 02, Req 04: "the opening byte under `from`, the station's characters under `to`, the
+/// letter's code under `code`, all in hex", and so are the codes of the payload's characters.
+pub fn of_drives(message: &drives::Message) -> Fields {
+    Fields {
+        from: vec![message.opening],
+        to: message.station.to_vec(),
+        code: vec![message.letter],
         payload: message.payload.clone(),
     }
 }

@@ -3,14 +3,15 @@
 use crate::lines::{self, Fields};
 use crate::number;
 use crate::packet;
-use crate::{comlynx, eversolar, fronius, Event, Outcome};
+use crate::{comlynx, drives, eversolar, fronius, Event, Outcome};
 
 const MOST_PACKETS: usize = 65_536;
+const PORTS: usize = 4;
 
 /// The packets taken, and the number of the refusal that stops the listing, if one does.
 struct Intake {
     packets: Vec<Taken>,
-    streams: [Vec<u8>; 3],
+    streams: [Vec<u8>; PORTS],
     stop: Option<u8>,
 }
 
@@ -93,12 +94,14 @@ fn lines_in_order(intake: &Intake) -> Vec<Line> {
 }
 
 /// "keeps one reader a port from packet to packet". The families stand in the paper's order:
-/// ComLynx on port 1 (case L1), Eversolar on 2, Fronius on 3, each over all bytes of its port.
-fn lines_of_ports(streams: &[Vec<u8>; 3]) -> [Vec<Line>; 3] {
+/// ComLynx on port 1 (case L1), Eversolar on 2, Fronius on 3; drives on "a fourth port" (document
+/// 02, Req 04). Each has all bytes of its port.
+fn lines_of_ports(streams: &[Vec<u8>; PORTS]) -> [Vec<Line>; PORTS] {
     [
         lines_of(1, comlynx::events(&streams[0]), lines::of_comlynx),
         lines_of(2, eversolar::events(&streams[1]), lines::of_eversolar),
         lines_of(3, fronius::events(&streams[2]), lines::of_fronius),
+        lines_of(4, drives::events(&streams[3]), lines::of_drives),
     ]
 }
 

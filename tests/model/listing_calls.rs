@@ -2,7 +2,7 @@
 
 use crate::calls::{
     after, forged_call, fresh_state, grid_calls, lead_with, lent_to_reader, op, shape, state_of,
-    state_on_the_way, Call, Making,
+    state_on_the_way, versions_and_ports, Call, Making,
 };
 use crate::random::Random;
 use crate::streams::{self, Family, FAMILIES};
@@ -31,7 +31,8 @@ fn end_line(messages: u64, damages: u64) -> Making {
 }
 
 /// The opcodes of a message's line, and the lengths of from, to and code that each fixes.
-const FIXED: [(u8, [usize; 3]); 3] = [(0x8A, [2, 2, 1]), (0x8B, [2, 2, 2]), (0x8C, [0, 2, 1])];
+const FIXED: [(u8, [usize; 3]); 4] =
+    [(0x8A, [2, 2, 1]), (0x8B, [2, 2, 2]), (0x8C, [0, 2, 1]), (0x8D, [1, 2, 1])];
 
 /// A message's line, and how many bytes it has.
 fn message_line(which: usize, port: u8, payload: usize, random: &mut Random) -> (Making, usize) {
@@ -79,6 +80,7 @@ pub fn line_sweep(random: &mut Random, calls: &mut Vec<Call>) {
         header_line(),
         damage_line(1, 2, 0),
         damage_line(3, 7, 4),
+        damage_line(4, 21, 12),
         damage_line(255, 255, 65_535),
         stop_line(9),
         stop_line(13),
@@ -111,7 +113,8 @@ fn line_digits(random: &mut Random, calls: &mut Vec<Call>) {
         calls.push(line.list(&random.bytes(exact)).from(MESSAGE_LINES));
     }
     for lost in WORDS_OF_DIGITS {
-        rooms_about_the_exact(damage_line(random.between(1, 3) as u8, 6, lost), random, calls);
+        rooms_about_the_exact(damage_line(random.between(1, 4) as u8, 6, lost), random, calls);
+        rooms_about_the_exact(damage_line(4, 21, lost), random, calls);
     }
     let counts = counts_of_digits();
     for &count in &counts {
@@ -190,11 +193,13 @@ const PORTS_GRID: &str = "all ports, limits of the states";
 const PORTS_LENT: &str = "all ports, every lent length";
 const PORTS_FORGED: &str = "all ports, forged states";
 const PORTS_CHAIN: &str = "all ports, streams in pieces";
-/// The bytes of PORTS: the three states.
-const PORTS_BYTES: usize = 270 + 268 + 135;
+/// The bytes of PORTS: the four states.
+const PORTS_BYTES: usize = 270 + 268 + 135 + 45;
 
-/// The states of the three readers, as bytes.
-type States = [Vec<u8>; 3];
+/// The states of the four readers, as bytes.
+type States = [Vec<u8>; 4];
+/// What spoils all of them, a bit for each.
+const ALL: usize = 15;
 
 fn fresh_states() -> States {
     FAMILIES.map(|family| fresh_state(shape(family)))
@@ -203,7 +208,23 @@ fn fresh_states() -> States {
 /// A state that is outside its range.
 pub fn spoilt_state(family: Family, random: &mut Random) -> Vec<u8> {
     let shape = shape(family);
-    let held = random.content(shape.held);
+    let held = family.content(random, shape.held);
+    if family == Family::Drives {
+        let (stage, count) = random.pick(&[
+            (0, 1),
+            (0, 42),
+            (4, 0),
+            (1, 0),
+            (7, 5),
+            (0x14, 0),
+            (0x16, 0),
+            (255, 0),
+            (5, 65_534),
+            (6, 65_535),
+            (0x15, 65_534),
+        ]);
+        return state_of(shape, &held, stage, count, 0);
+    }
     let (stage, count, last) = random.pick(&[
         (0, 4, 0),
         (0, 0, 1),
@@ -213,7 +234,7 @@ pub fn spoilt_state(family: Family, random: &mut Random) -> Vec<u8> {
         (1, 267, 0),
         (2, 65_535, 0),
     ]);
-    state_of(&held, stage, count, last)
+    state_of(shape, &held, stage, count, last)
 }
 
 /// A state that reading has left, or a fresh one.
@@ -222,7 +243,7 @@ fn good_state(family: Family, random: &mut Random) -> Vec<u8> {
     if random.one_in(3) {
         return fresh_state(shape);
     }
-    let begin = state_of(&random.specials(shape.held), 0, 0, 0);
+    let begin = state_of(shape, &family.specials(random, shape.held), 0, 0, 0);
     let frame = streams::frame(family, random);
     let cut = random.between(0, frame.len() - 1);
     let call = op(shape.op).raw(&begin).list(&frame[..cut]).list(&[0; 255]).bytes;
@@ -235,7 +256,7 @@ fn states_with(spoilt: usize, random: &mut Random) -> States {
         1 => spoilt_state(FAMILIES[index], random),
         _ => good_state(FAMILIES[index], random),
     };
-    [state(0), state(1), state(2)]
+    [state(0), state(1), state(2), state(3)]
 }
 
 fn port_call(states: &States, port: u8, piece: &[u8], lent: &[u8]) -> Making {
@@ -251,12 +272,15 @@ fn after_a_port(call: &[u8], lent: usize) -> (u8, usize, States) {
 }
 
 fn cut_into_states(ports: &[u8]) -> States {
-    [ports[..270].to_vec(), ports[270..538].to_vec(), ports[538..PORTS_BYTES].to_vec()]
+    let (rest, drives) = ports[..PORTS_BYTES].split_at(270 + 268 + 135);
+    let (rest, fronius) = rest.split_at(270 + 268);
+    let (comlynx, eversolar) = rest.split_at(270);
+    [comlynx, eversolar, fronius, drives].map(<[u8]>::to_vec)
 }
 
 /// A reader's call made through its port, beside other states.
 fn through_its_port(family: Family, call: &Call, random: &mut Random) -> Making {
-    let spoilt = random.pick(&[0, 0, 0, 7]);
+    let spoilt = random.pick(&[0, 0, 0, ALL]);
     let mut states = states_with(spoilt, random);
     let (state, rest) = call.bytes[1..].split_at(shape(family).state);
     states[index_of(family)] = state.to_vec();
@@ -264,15 +288,15 @@ fn through_its_port(family: Family, call: &Call, random: &mut Random) -> Making 
 }
 
 fn index_of(family: Family) -> usize {
-    FAMILIES.iter().position(|&other| other == family).expect("one of the three")
+    FAMILIES.iter().position(|&other| other == family).expect("one of the four")
 }
 
 pub fn port_sweep(random: &mut Random, calls: &mut Vec<Call>) {
-    for port in [0, 1, 2, 3, 4, 5, 255] {
-        for spoilt in 0..8 {
+    for port in [0, 1, 2, 3, 4, 5, 6, 255] {
+        for spoilt in 0..=ALL {
             for lent in [0, 254, 255, 256] {
                 let states = states_with(spoilt, random);
-                let family = FAMILIES[usize::from(port).saturating_sub(1).min(2)];
+                let family = FAMILIES[usize::from(port).saturating_sub(1).min(3)];
                 let frame = streams::frame(family, random);
                 let lent = random.bytes(lent);
                 calls.push(port_call(&states, port, &frame, &lent).from(PORTS));
@@ -280,9 +304,9 @@ pub fn port_sweep(random: &mut Random, calls: &mut Vec<Call>) {
         }
     }
     for length in (0..=258).chain([532, 8192, 16_384]) {
-        let family = FAMILIES[length % 3];
-        let frame = streams::frame(family, random);
-        let port = (length % 3) as u8 + 1;
+        let index = length % FAMILIES.len();
+        let frame = streams::frame(FAMILIES[index], random);
+        let port = index as u8 + 1;
         let lent = random.bytes(length);
         calls.push(port_call(&fresh_states(), port, &frame, &lent).from(PORTS_LENT));
     }
@@ -301,14 +325,14 @@ pub fn random_port(random: &mut Random) -> Call {
     through_its_port(family, &call, random).from(PORTS_FORGED)
 }
 
-/// The streams of the three ports in turn, in pieces, "each piece called on until it is used up".
+/// The streams of the four ports in turn, in pieces, "each piece called on until it is used up".
 pub fn port_chain(random: &mut Random, calls: &mut Vec<Call>) {
     let least = random.pick(&[20, 60, 300]);
     let streams = FAMILIES.map(|family| streams::stream(family, random, least));
     let longest_piece = random.pick(&[1, 5, 40, 300]);
-    let (mut states, mut positions) = (fresh_states(), [0; 3]);
+    let (mut states, mut positions) = (fresh_states(), [0; FAMILIES.len()]);
     for _ in 0..30 {
-        let port = random.below(3);
+        let port = random.below(FAMILIES.len());
         let rest = &streams[port][positions[port]..];
         let mut piece = &rest[..random.between(1, longest_piece).min(rest.len())];
         positions[port] += piece.len();
@@ -384,7 +408,7 @@ impl Listing {
 
 /// A packet with a frame of its port's family, or a part of it.
 fn packet_of_a_frame(random: &mut Random) -> Vec<u8> {
-    let index = random.below(3);
+    let index = random.below(FAMILIES.len());
     let mut frame = streams::frame(FAMILIES[index], random);
     frame.truncate(240);
     packet::packet(index as u8 + 1, &frame)
@@ -408,9 +432,12 @@ fn telling_inputs(random: &mut Random) -> Vec<Vec<u8>> {
         whole[..last].to_vec(),
         two,
         with(0, 0),
+        with(4, 1),
         with(4, 2),
+        with(4, 3),
         with(5, 0),
         with(5, 4),
+        with(5, 5),
         with(6, 0),
         with(6, 241),
         vec![0],
@@ -485,7 +512,7 @@ fn listing_rooms(random: &mut Random, calls: &mut Vec<Call>) {
 
 /// A packet and what follows it, cut at every byte, at the end of the input and before it.
 fn listing_cuts(random: &mut Random, calls: &mut Vec<Call>) {
-    for index in 0..3 {
+    for index in 0..FAMILIES.len() {
         let frame = streams::frame_with(FAMILIES[index], random, vec![0x11; 3]);
         let both = [packet::packet(index as u8 + 1, &frame), packet_of_a_frame(random)].concat();
         for cut in 0..=(7 + frame.len() + 8) {
@@ -495,7 +522,8 @@ fn listing_cuts(random: &mut Random, calls: &mut Vec<Call>) {
             }
         }
     }
-    let longest = packet::packet(random.between(1, 3) as u8, &random.content(240));
+    let index = random.below(FAMILIES.len());
+    let longest = packet::packet(index as u8 + 1, &FAMILIES[index].content(random, 240));
     for cut in (0..=longest.len()).filter(|cut| cut % 8 == 0 || *cut > 237) {
         let listing = with_some_counts(random);
         calls.push(listing.enough_lent(cut % 16 == 0, &longest[..cut], random).from(CUTS));
@@ -512,9 +540,10 @@ fn with_some_counts(random: &mut Random) -> Listing {
 /// and where 65,536 packets are counted.
 fn listing_leads(random: &mut Random, calls: &mut Vec<Call>) {
     for position in 0..7 {
-        for value in [0, 1, 2, 3, 4, 0x42, 0x52, 0x53, 240, 241, 255] {
+        for value in [0, 1, 2, 3, 4, 5, 0x42, 0x52, 0x53, 240, 241, 255] {
             for length in [6, 7, 8, 247] {
-                let mut input = [packet::packet(1, &[0x7E]), vec![0x7E; 300]].concat();
+                let port = random.pick(&[1, 4]);
+                let mut input = [packet::packet(port, &[0x7E]), vec![0x7E; 300]].concat();
                 input[position] = value;
                 let listing = with_some_counts(random);
                 let ended = random.one_in(2);
@@ -522,6 +551,11 @@ fn listing_leads(random: &mut Random, calls: &mut Vec<Call>) {
                 calls.push(making.from(LEADS));
             }
         }
+    }
+    for lead in versions_and_ports() {
+        let input = [&lead[..], &[0x05; 240]].concat();
+        let (listing, ended) = (with_some_counts(random), random.one_in(2));
+        calls.push(listing.enough_lent(ended, &input, random).from(LEADS));
     }
     for wrong in 0..16 {
         for length in [6, 7, 26, 27] {
@@ -538,8 +572,8 @@ fn listing_leads(random: &mut Random, calls: &mut Vec<Call>) {
 
 /// Spoilt states of the packet's port and of others, with everything that is told before.
 fn listing_states(random: &mut Random, calls: &mut Vec<Call>) {
-    for spoilt in 0..8 {
-        for port in [0, 1, 2, 3, 4] {
+    for spoilt in 0..=ALL {
+        for port in [0, 1, 2, 3, 4, 5] {
             for (packets, over, cut, lent) in [
                 (3, 0, 0, 8192),
                 (3, 0, 1, 8192),
@@ -552,7 +586,7 @@ fn listing_states(random: &mut Random, calls: &mut Vec<Call>) {
                 let most = packets * LINES_OF_A_PACKET;
                 let states = states_with(spoilt, random);
                 let listing = Listing { states, packets, messages: most + over, damages: most };
-                let frame = streams::frame(FAMILIES[port % 3], random);
+                let frame = streams::frame(FAMILIES[port.clamp(1, 4) - 1], random);
                 let input = packet::packet(port as u8, &frame[..frame.len().min(240)]);
                 let input = &input[..input.len().saturating_sub(cut)];
                 let making = listing.call(random.one_in(2), input, &random.bytes(lent));
@@ -564,16 +598,20 @@ fn listing_states(random: &mut Random, calls: &mut Vec<Call>) {
 
 /// Packets that settle as many lines as they can, or a long one and many behind it.
 fn listing_busy(random: &mut Random, calls: &mut Vec<Call>) {
-    let parts: [&[u8]; 6] = [
+    let parts: [&[u8]; 10] = [
         &[0x00, 0x7E],
         &[0x7D, 0x7E],
         &[0x7E, 0xFF, 3, 0, 2, 0x11, 0xFF, 0, 0x15, 0x79, 0x91],
         &[0xAA, 0x55, 1, 0, 0, 0, 0x10, 0, 0, 0x01, 0x10],
         &[0x80, 0x80, 0x80, 0x81],
         &[0x80, 0x80, 0x80, 0, 0, 0, 1, 1],
+        &[0x05, 0x04],
+        &[0x05, 0x46, 0x46, 0x58, 0x45, 0x34, 0x04],
+        &[0x06, 0x30, 0x30, 0x72, 0x44, 0x32, 0x04],
+        &[0x15, 0x30, 0x31, 0x57, 0x34, 0x44, 0x33, 0x31, 0x04],
     ];
     for (order, part) in parts.iter().enumerate() {
-        let index = [0, 0, 0, 1, 2, 2][order];
+        let index = [0, 0, 0, 1, 2, 2, 3, 3, 3, 3][order];
         for first in 0..8 {
             let frame = streams::frame_with(FAMILIES[index], random, vec![0xA5; first * 16]);
             let begun = frame.len() - (1 + first).min(frame.len());
@@ -592,8 +630,8 @@ fn listing_busy(random: &mut Random, calls: &mut Vec<Call>) {
 
 /// A packet whose piece goes on where its port's state stands.
 pub fn random_listing(random: &mut Random) -> Call {
-    let index = random.below(3);
-    let spoilt = random.pick(&[0, 0, 0, 0, 0, 1, 2, 4, 7]);
+    let index = random.below(FAMILIES.len());
+    let spoilt = random.pick(&[0, 0, 0, 0, 0, 1, 2, 4, 8, ALL]);
     let mut states = states_with(spoilt, random);
     let (state, mut piece) = state_on_the_way(shape(FAMILIES[index]), random);
     states[index] = state;

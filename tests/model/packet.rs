@@ -5,7 +5,8 @@ use crate::{hand_over, not_written, Written};
 
 /// "Mark `SBR`, version 00 01 (high byte first)".
 const MARK: [u8; 3] = *b"SBR";
-const VERSION: [u8; 2] = [0x00, 0x01];
+const VERSION_1: [u8; 2] = [0x00, 0x01];
+const VERSION_2: [u8; 2] = [0x00, 0x02];
 /// The lead, before the piece: mark, version, port and count.
 const LEAD_BYTES: usize = 7;
 
@@ -24,11 +25,12 @@ pub fn read(bytes: &[u8]) -> Result<Packet, u8> {
     if bytes[..3] != MARK {
         return Err(number::WRONG_MARK);
     }
-    if bytes[3..5] != VERSION {
+    let version = [bytes[3], bytes[4]];
+    if !is_a_version(version) {
         return Err(number::WRONG_VERSION);
     }
     let (port, count) = (bytes[5], bytes[6]);
-    if !is_a_port(port) || !is_a_count(usize::from(count)) {
+    if !is_a_port(port) || version != version_of(port) || !is_a_count(usize::from(count)) {
         return Err(number::WRONG_PORT_OR_COUNT);
     }
     // "bytes used (7 plus count)".
@@ -39,9 +41,23 @@ pub fn read(bytes: &[u8]) -> Result<Packet, u8> {
     Ok(Packet { port, count, used })
 }
 
-/// "port 1 to 3".
+/// Another is 11, whatever the port: "12 for a known version with the wrong port".
+fn is_a_version(version: [u8; 2]) -> bool {
+    version == VERSION_1 || version == VERSION_2
+}
+
+/// Document 02, Req 04: "Packets for port 4, and only those, are written and read with version 00
+/// 02".
+fn version_of(port: u8) -> [u8; 2] {
+    match port {
+        4 => VERSION_2,
+        _ => VERSION_1,
+    }
+}
+
+/// "port 1 to 3", and the fourth of Req 04.
 fn is_a_port(port: u8) -> bool {
-    (1..=3).contains(&port)
+    (1..=4).contains(&port)
 }
 
 /// "count 1 to 240".
@@ -59,7 +75,7 @@ pub fn write(port: u8, piece: &[u8], lent: &mut [u8]) -> Written {
 
 pub fn packet(port: u8, piece: &[u8]) -> Vec<u8> {
     let mut packet = MARK.to_vec();
-    packet.extend(VERSION);
+    packet.extend(version_of(port));
     packet.extend([port, piece.len() as u8]);
     packet.extend(piece);
     packet

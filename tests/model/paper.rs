@@ -13,6 +13,7 @@
 pub mod by_packet;
 pub mod checksum;
 pub mod comlynx;
+pub mod drives;
 pub mod eversolar;
 pub mod fronius;
 pub mod lines;
@@ -22,7 +23,8 @@ pub mod ports;
 pub mod probe;
 pub mod roster;
 
-/// The answer numbers ("Answer numbers"): 2 to 7 are damages, 8 to 19 refusals.
+/// The answer numbers ("Answer numbers", and document 02, Req 04): 2 to 7 and 21 are damages, 8 to 19
+/// and 21 refusals. So 21 is both, and a number alone does not tell a refusal: what gives it does.
 pub mod number {
     /// Done; for a reader: the piece is used up.
     pub const DONE: u8 = 0;
@@ -30,8 +32,9 @@ pub mod number {
     pub const MESSAGE: u8 = 1;
     /// ComLynx: a 7D of the stretch is not followed by 5E or 5D.
     pub const BROKEN_PAIR: u8 = 2;
-    /// ComLynx: the whole body has fewer than 10 bytes or more than 265. A wrong length byte is 7.
-    pub const WRONG_BODY_LENGTH: u8 = 3;
+    /// ComLynx: the whole body has fewer than 10 bytes or more than 265. Drives: the whole frame has
+    /// fewer than 7 bytes, or more than 44 in a request or 39 in a reply. A wrong length byte is 7.
+    pub const WRONG_WHOLE_LENGTH: u8 = 3;
     /// ComLynx: the body does not begin FF 03.
     pub const WRONG_START: u8 = 4;
     /// ComLynx: the size byte is not the body's length less 10.
@@ -46,9 +49,9 @@ pub mod number {
     pub const NO_ROOM: u8 = 9;
     /// A packet does not begin `SBR`.
     pub const WRONG_MARK: u8 = 10;
-    /// A packet's version is not 00 01.
+    /// A packet's version is neither 00 01 nor 00 02.
     pub const WRONG_VERSION: u8 = 11;
-    /// A port is not 1 to 3, or a packet's count is not 1 to 240.
+    /// A port is not 1 to 4, a packet's port is none of its version, or its count is not 1 to 240.
     pub const WRONG_PORT_OR_COUNT: u8 = 12;
     /// A packet is not all there.
     pub const BYTES_MISSING: u8 = 13;
@@ -68,6 +71,9 @@ pub mod number {
     pub const SPOILT: u8 = 18;
     /// More input follows after 65,536 packets.
     pub const TOO_MANY_PACKETS: u8 = 19;
+    /// Drives: a character is outside its set. A damage where a reader tells it, and a refusal where
+    /// a writer or another call does.
+    pub const WRONG_CHARACTER: u8 = 21;
 }
 
 /// What the checks of a stretch or a frame say: a message, or the number of a damage.
@@ -107,7 +113,7 @@ pub trait Payload {
     fn payload(&self) -> &[u8];
 }
 
-/// "reader: under 255 bytes lent": 9. One limit for the three families.
+/// "reader: under 255 bytes lent": 9. One limit for all families.
 pub const LEAST_LENT_TO_A_READER: usize = 255;
 
 /// "A reader tests 18, then 9, then the piece."
@@ -142,7 +148,8 @@ pub fn one_call<M: Payload>(
 }
 
 /// 1: "bytes used up to its last; data at the front of the lent buffer, rest unchanged".
-/// 2 to 7: "bytes used up to the one that settles it, lent buffer unchanged".
+/// 2 to 7, and a 21 that "returns and leaves what 2 to 7 do": "bytes used up to the one that settles
+/// it, lent buffer unchanged".
 fn settled<M: Payload>(used: usize, outcome: Outcome<M>, lent: &mut [u8]) -> Reading<M> {
     match outcome {
         Ok(message) => {

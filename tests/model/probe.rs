@@ -4,7 +4,7 @@ use crate::by_packet::{self, Listing};
 use crate::lines::{self, Fields};
 use crate::number;
 use crate::ports::{self, Ports};
-use crate::{checksum, comlynx, eversolar, fronius, hand_over, packet, roster, Written};
+use crate::{checksum, comlynx, drives, eversolar, fronius, hand_over, packet, roster, Written};
 
 /// "A list is W (its length, at most 16,384) and that many bytes."
 const LONGEST_LIST: usize = 16_384;
@@ -12,12 +12,12 @@ const LONGEST_LIST: usize = 16_384;
 /// What is lent at most of a HELD list.
 const MOST_HELD_LENT: usize = 512;
 
-/// Which program makes a call: "`test_probe_readers` makes ops 01 to 09, `test_probe_listing` makes
-/// ops 81 to 8C, `test_probe_calls` makes all others", counted from 0.
+/// Which program makes a call: "`test_probe_readers` makes ops 01 to 0C, `test_probe_listing` makes
+/// ops 81 to 8D, `test_probe_calls` makes all others", counted from 0.
 pub fn program_of(op: u8) -> usize {
     match op {
-        0x01..=0x09 => 0,
-        0x81..=0x8C => 1,
+        0x01..=0x0C => 0,
+        0x81..=0x8D => 1,
         _ => 2,
     }
 }
@@ -133,12 +133,17 @@ fn next_result(calls: &mut Arguments) -> Option<Vec<u8>> {
         0x07 => read_comlynx_in_place(calls),
         0x08 => read_eversolar_in_place(calls),
         0x09 => read_fronius_in_place(calls),
+        0x0A => read_drives(calls),
+        0x0B => Some(put_drives_state(Answer::of(number::DONE), &drives::fresh())),
+        0x0C => read_drives_in_place(calls),
         0x11 => write_comlynx(calls),
         0x12 => write_eversolar(calls),
         0x13 => write_fronius(calls),
+        0x14 => write_drives(calls),
         0x21 => meaning(calls),
         0x22 => address_of_a_word(calls),
         0x23 => word_of_an_address(calls),
+        0x24 => reply_expected(calls),
         0x31 => request_to_all(calls),
         0x32 => request_to_one(calls),
         0x33 => give_an_address(calls),
@@ -172,6 +177,7 @@ fn next_result(calls: &mut Arguments) -> Option<Vec<u8>> {
         0x8A => message_line_of(calls, [2, 2, 1]),
         0x8B => message_line_of(calls, [2, 2, 2]),
         0x8C => message_line_of(calls, [0, 2, 1]),
+        0x8D => message_line_of(calls, [1, 2, 1]),
         _ => None,
     };
     answer.map(|answer| answer.bytes)
@@ -314,6 +320,51 @@ fn put_fronius_in_place(answer: Answer, state: &fronius::State) -> Answer {
     answer.byte(state.stage).word(state.count).word(state.length).list(&state.held)
 }
 
+/// "drives have neither: theirs is held, stage, count".
+fn drives_state(calls: &mut Arguments) -> Option<drives::State> {
+    let held = calls.bytes(drives::MOST_HELD)?.to_vec();
+    let (stage, count) = (calls.byte()?, calls.word()?);
+    Some(drives::State { held, stage, count })
+}
+
+fn read_drives(calls: &mut Arguments) -> Option<Answer> {
+    let state = drives_state(calls)?;
+    drives_call(calls, state, put_drives_state)
+}
+
+fn read_drives_in_place(calls: &mut Arguments) -> Option<Answer> {
+    let (stage, count) = (calls.byte()?, calls.word()?);
+    let held = calls.held()?;
+    drives_call(calls, drives::State { held, stage, count }, put_drives_in_place)
+}
+
+fn drives_call(
+    calls: &mut Arguments,
+    mut state: drives::State,
+    put_state: fn(Answer, &drives::State) -> Answer,
+) -> Option<Answer> {
+    let (piece, mut lent) = (calls.list()?, calls.lent()?);
+    let reading = drives::read(&mut state, piece, &mut lent);
+    let answer = Answer::of(reading.number).word(reading.used as u16).word(reading.lost);
+    let answer = match reading.message {
+        Some(message) => answer
+            .byte(message.opening)
+            .bytes(&message.station)
+            .byte(message.letter)
+            .word(message.payload.len() as u16),
+        None => answer.bytes(&[0; 6]),
+    };
+    Some(put_state(answer, &state).list(&lent))
+}
+
+fn put_drives_state(answer: Answer, state: &drives::State) -> Answer {
+    answer.bytes(&state.held).byte(state.stage).word(state.count)
+}
+
+fn put_drives_in_place(answer: Answer, state: &drives::State) -> Answer {
+    answer.byte(state.stage).word(state.count).list(&state.held)
+}
+
 // ---- writers ----
 
 fn put_written(written: &Written, lent: &[u8]) -> Answer {
@@ -357,6 +408,18 @@ fn write_fronius(calls: &mut Arguments) -> Option<Answer> {
     Some(put_written(&written, &lent))
 }
 
+fn write_drives(calls: &mut Arguments) -> Option<Answer> {
+    let message = drives::Message {
+        opening: calls.byte()?,
+        station: calls.pair()?,
+        letter: calls.byte()?,
+        payload: calls.list()?.to_vec(),
+    };
+    let mut lent = calls.lent()?;
+    let written = drives::write(&message, &mut lent);
+    Some(put_written(&written, &lent))
+}
+
 // ---- ComLynx meaning and addresses ----
 
 fn meaning(calls: &mut Arguments) -> Option<Answer> {
@@ -379,6 +442,16 @@ fn word_of_an_address(calls: &mut Arguments) -> Option<Answer> {
     Some(match comlynx::word_of(network, subnet, node) {
         Ok(word) => Answer::of(number::DONE).word(word),
         Err(refusal) => Answer::of(refusal).word(0),
+    })
+}
+
+// ---- whether a drive replies ----
+
+fn reply_expected(calls: &mut Arguments) -> Option<Answer> {
+    let (opening, station) = (calls.byte()?, calls.pair()?);
+    Some(match drives::reply_expected(opening, station) {
+        Ok(expected) => Answer::of(number::DONE).byte(u8::from(expected)),
+        Err(refusal) => Answer::of(refusal).byte(0),
     })
 }
 
@@ -591,19 +664,21 @@ fn end_line(calls: &mut Arguments) -> Option<Answer> {
 
 // ---- all ports, and the listing packet by packet ----
 
-/// "PORTS is: the STATE of ComLynx, of Eversolar and of Fronius."
+/// "PORTS is: the STATE of ComLynx, of Eversolar, of Fronius and of drives."
 fn ports_of(calls: &mut Arguments) -> Option<Ports> {
     Some(Ports {
         comlynx: comlynx_state(calls)?,
         eversolar: eversolar_state(calls)?,
         fronius: fronius_state(calls)?,
+        drives: drives_state(calls)?,
     })
 }
 
 fn put_ports(answer: Answer, ports: &Ports) -> Answer {
     let answer = put_comlynx_state(answer, &ports.comlynx);
     let answer = put_eversolar_state(answer, &ports.eversolar);
-    put_fronius_state(answer, &ports.fronius)
+    let answer = put_fronius_state(answer, &ports.fronius);
+    put_drives_state(answer, &ports.drives)
 }
 
 fn read_a_port(calls: &mut Arguments) -> Option<Answer> {

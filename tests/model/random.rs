@@ -4,9 +4,19 @@ pub struct Random {
     state: u64,
 }
 
-/// Bytes that mean something to one of the families.
+/// Bytes that mean something to ComLynx, Eversolar or Fronius.
 pub const SPECIAL: [u8; 13] =
     [0x7E, 0x7D, 0x5E, 0x5D, 0xFF, 0x03, 0xAA, 0x55, 0x80, 0x81, 0x7F, 0x00, 0x01];
+
+/// Bytes that mean something to drives, which speak in characters: what opens and ends a frame, the
+/// letters, the first and the last of each set, and their neighbours.
+pub const SPECIAL_OF_DRIVES: [u8; 24] = [
+    0x04, 0x05, 0x06, 0x15, 0x30, 0x39, 0x3A, 0x41, 0x46, 0x47, 0x52, 0x57, 0x58, 0x59, 0x61, 0x04,
+    0x2F, 0x40, 0x53, 0x56, 0x5A, 0x66, 0x72, 0x00,
+];
+
+/// The characters of a number in ASCII hex.
+pub const DIGITS: [u8; 16] = *b"0123456789ABCDEF";
 
 impl Random {
     /// One generator for each seed, kind of case and case.
@@ -61,6 +71,19 @@ impl Random {
 
     pub fn specials(&mut self, count: usize) -> Vec<u8> {
         (0..count).map(|_| self.special()).collect()
+    }
+
+    /// Mostly a byte that means something to drives.
+    pub fn special_of_drives(&mut self) -> u8 {
+        if self.one_in(6) {
+            self.byte()
+        } else {
+            self.pick(&SPECIAL_OF_DRIVES)
+        }
+    }
+
+    pub fn digits(&mut self, count: usize) -> Vec<u8> {
+        (0..count).map(|_| self.pick(&DIGITS)).collect()
     }
 
     pub fn bytes(&mut self, count: usize) -> Vec<u8> {

@@ -1,31 +1,61 @@
-//! Streams of the three families, rich in special bytes and limits, and whole inputs of the
+//! Streams of the four families, rich in special bytes and limits, and whole inputs of the
 //! listing program made of them.
 
-use crate::random::Random;
-use right::{comlynx, eversolar, fronius, packet};
+use crate::random::{Random, DIGITS};
+use right::{comlynx, drives, eversolar, fronius, packet};
 
 #[derive(Clone, Copy, PartialEq)]
 pub enum Family {
     ComLynx,
     Eversolar,
     Fronius,
+    Drives,
 }
 
-pub const FAMILIES: [Family; 3] = [Family::ComLynx, Family::Eversolar, Family::Fronius];
+/// In the order of their ports.
+pub const FAMILIES: [Family; 4] =
+    [Family::ComLynx, Family::Eversolar, Family::Fronius, Family::Drives];
 
 impl Family {
     pub fn most_payload(self) -> usize {
         match self {
             Family::Fronius => fronius::MOST_PAYLOAD,
+            Family::Drives => drives::MOST_PAYLOAD,
             _ => comlynx::MOST_PAYLOAD,
         }
     }
 
-    fn opening(self) -> u8 {
+    fn opening(self, random: &mut Random) -> u8 {
         match self {
             Family::ComLynx => comlynx::FLAG,
             Family::Eversolar => eversolar::HEADER[0],
             Family::Fronius => fronius::START,
+            Family::Drives => random.pick(&OPENINGS),
+        }
+    }
+
+    /// Mostly a byte that means something to the family.
+    pub fn special(self, random: &mut Random) -> u8 {
+        match self {
+            Family::Drives => random.special_of_drives(),
+            _ => random.special(),
+        }
+    }
+
+    pub fn specials(self, random: &mut Random, count: usize) -> Vec<u8> {
+        (0..count).map(|_| self.special(random)).collect()
+    }
+
+    /// Special bytes, any bytes, or one byte again and again; for drives digits too.
+    pub fn content(self, random: &mut Random, count: usize) -> Vec<u8> {
+        match self {
+            Family::Drives => match random.below(4) {
+                0 => random.bytes(count),
+                1 => vec![self.special(random); count],
+                2 => random.digits(count),
+                _ => self.specials(random, count),
+            },
+            _ => random.content(count),
         }
     }
 }
@@ -45,19 +75,22 @@ fn part(family: Family, random: &mut Random) -> Vec<u8> {
         4 | 5 => spoilt_frame(family, random),
         6 | 7 => shaped(family, random),
         8 => overlapping(family, random),
-        9 => random.specials(1).repeat(3),
-        10 => vec![family.opening(); random.pick(&[1, 2, 3, 4, 5, 6])],
-        _ => junk(random),
+        9 => family.specials(random, 1).repeat(3),
+        10 => vec![family.opening(random); random.pick(&[1, 2, 3, 4, 5, 6])],
+        _ => junk(family, random),
     }
 }
 
-fn junk(random: &mut Random) -> Vec<u8> {
+fn junk(family: Family, random: &mut Random) -> Vec<u8> {
     let count = random.between(1, 12);
-    random.specials(count)
+    family.specials(random, count)
 }
 
 pub fn payload_length(family: Family, random: &mut Random) -> usize {
     let most = family.most_payload();
+    if family == Family::Drives && random.one_in(3) {
+        return random.pick(&[MOST_IN_A_REPLY - 1, MOST_IN_A_REPLY, MOST_IN_A_REPLY + 1]);
+    }
     match random.below(8) {
         0 => most,
         1 => most - 1,
@@ -97,6 +130,39 @@ pub fn frame_with(family: Family, random: &mut Random, payload: Vec<u8>) -> Vec<
             command: lead[2],
             payload,
         }),
+        Family::Drives => frame_of_digits(random, digits_of(&payload)),
+    }
+}
+
+pub const OPENINGS: [u8; 3] = [drives::ENQ, drives::ACK, drives::NAK];
+pub const LETTERS: [u8; 4] = *b"RWXY";
+/// The data characters of the longest reply.
+pub const MOST_IN_A_REPLY: usize = 32;
+
+/// A digit for each byte, but no more than a request may have; a byte that is a digit stays.
+fn digits_of(bytes: &[u8]) -> Vec<u8> {
+    let digit = |&byte: &u8| match DIGITS.contains(&byte) {
+        true => byte,
+        false => DIGITS[usize::from(byte) % DIGITS.len()],
+    };
+    bytes.iter().take(drives::MOST_PAYLOAD).map(digit).collect()
+}
+
+/// A reply where it may be one, or a request.
+fn frame_of_digits(random: &mut Random, payload: Vec<u8>) -> Vec<u8> {
+    let opening = match payload.len() > MOST_IN_A_REPLY {
+        true => drives::ENQ,
+        false => random.pick(&OPENINGS),
+    };
+    let station = station(random);
+    drives::frame(&drives::Message { opening, station, letter: random.pick(&LETTERS), payload })
+}
+
+/// Now and then the one of every drive.
+pub fn station(random: &mut Random) -> [u8; 2] {
+    match random.one_in(4) {
+        true => *b"FF",
+        false => [random.pick(&DIGITS), random.pick(&DIGITS)],
     }
 }
 
@@ -106,11 +172,11 @@ fn spoilt_frame(family: Family, random: &mut Random) -> Vec<u8> {
     let mut frame = frame(family, random);
     let position = position_in(&frame, random);
     match random.below(7) {
-        0 | 1 => frame[position] = random.special(),
+        0 | 1 => frame[position] = family.special(random),
         2 => frame[position] ^= 1 << random.below(8),
         3 => drop(frame.remove(position)),
         4 => frame.insert(position, frame[position]),
-        5 => frame.insert(position, random.special()),
+        5 => frame.insert(position, family.special(random)),
         _ => frame.truncate(position),
     }
     if random.one_in(4) && frame.len() > 1 {
@@ -152,6 +218,11 @@ pub fn shaped(family: Family, random: &mut Random) -> Vec<u8> {
         },
         Family::Eversolar => shaped_eversolar(random),
         Family::Fronius => shaped_fronius(random),
+        Family::Drives => match random.below(6) {
+            0 => long_frame(random),
+            1 | 2 => frame_with_a_sum(random),
+            _ => shaped_drives(random),
+        },
     }
 }
 
@@ -333,15 +404,110 @@ fn shaped_fronius(random: &mut Random) -> Vec<u8> {
     frame
 }
 
+/// A frame about as long as a frame may be or a state holds, where each check may fail or not, so
+/// that their order shows.
+fn shaped_drives(random: &mut Random) -> Vec<u8> {
+    let length = random.pick(&[2, 3, 5, 6, 7, 8, 12, 38, 39, 40, 41, 43, 44, 45, 46, 60]);
+    let (opening, wrong) = (random.pick(&OPENINGS), random.pick(&[0, 0, 1, 2, 3]));
+    drives_frame_with(random, opening, length, wrong)
+}
+
+/// A frame of `length` bytes from its opening byte through its EOT, wrong where a bit of `wrong`
+/// says so: a character outside its set, which is counted in the sum, and the sum.
+pub fn drives_frame_with(random: &mut Random, opening: u8, length: usize, wrong: u8) -> Vec<u8> {
+    let mut summed = [&station(random)[..], &[random.pick(&LETTERS)]].concat();
+    let rest = random.digits(length);
+    summed.extend(rest);
+    summed.truncate(length.saturating_sub(4));
+    if wrong & 1 == 1 && !summed.is_empty() {
+        let position = random.below(summed.len());
+        summed[position] = outside_its_set(random, position);
+    }
+    let sum = drives::sum_of(&summed).wrapping_add(wrong >> 1 & 1);
+    let mut characters = [&summed[..], &drives::in_two_digits(sum)].concat();
+    characters.truncate(length - 2);
+    [&[opening], &characters[..], &[drives::EOT]].concat()
+}
+
+/// A byte that may not stand at this place behind the opening byte, and ends no frame.
+pub fn outside_its_set(random: &mut Random, position: usize) -> u8 {
+    let outside = match position {
+        2 => *b"QSVZrwxy0AF\x05\x06\x15\xD2\x00",
+        _ => *b"/:@Gafg`RY\x05\x06\x15\xB0\xC1\x00",
+    };
+    random.pick(&outside)
+}
+
+/// A frame whose sum takes in too much or too little, is off by one, has its two characters
+/// exchanged, or has small letters.
+fn frame_with_a_sum(random: &mut Random) -> Vec<u8> {
+    let mut frame = frame(Family::Drives, random);
+    let position = frame.len() - 3;
+    let (opening, last, sum) = (frame[0], frame[position - 1], drives::sum_of(&frame[1..position]));
+    let other = match random.below(8) {
+        0 => sum.wrapping_add(opening),
+        1 => sum.wrapping_add(drives::EOT),
+        2 => sum.wrapping_sub(last),
+        3 => sum.wrapping_sub(frame[1]),
+        4 => sum.wrapping_sub(frame[3]),
+        5 => sum.wrapping_add(random.pick(&[1, 16, 240, 255])),
+        6 => 0_u8.wrapping_sub(sum),
+        _ => sum,
+    };
+    frame[position..position + 2].copy_from_slice(&drives::in_two_digits(other));
+    match random.below(6) {
+        0 => frame.swap(position, position + 1),
+        1 => frame[position..position + 2].make_ascii_lowercase(),
+        _ => {}
+    }
+    frame
+}
+
+/// A frame that does not end for a while, what opens frames among its bytes.
+fn long_frame(random: &mut Random) -> Vec<u8> {
+    let count = random.pick(&[41, 42, 43, 44, 100, 254, 255, 256, 257, 600]);
+    frame_of(random, count)
+}
+
+/// A frame of so many bytes between its opening byte and its EOT.
+fn frame_of(random: &mut Random, count: usize) -> Vec<u8> {
+    let opening = random.pick(&OPENINGS);
+    [&[opening], &without_ends(random, count)[..], &[drives::EOT]].concat()
+}
+
+/// So many bytes that may stand inside one frame of drives.
+pub fn without_ends(random: &mut Random, count: usize) -> Vec<u8> {
+    let mut bytes = Family::Drives.content(random, count);
+    let instead = random.pick(&[0x00, 0x30, drives::ENQ]);
+    for byte in &mut bytes {
+        if *byte == drives::EOT {
+            *byte = instead;
+        }
+    }
+    bytes
+}
+
+/// Frames about as long as the number of lost bytes can tell, and longer, then one that is right.
+pub fn longest_frames(random: &mut Random) -> Vec<u8> {
+    let mut stream = Vec::new();
+    for _ in 0..3 {
+        let count =
+            random.pick(&[65_531, 65_532, 65_533, 65_534, 65_535, 70_000, 131_070, 131_080]);
+        stream.extend(frame_of(random, count));
+    }
+    stream.extend(frame(Family::Drives, random));
+    stream
+}
+
 // ---- whole inputs of the listing program ----
 
-/// Packets of the three ports, cut anywhere and interleaved, sometimes with something wrong.
+/// Packets of the four ports, cut anywhere and interleaved, sometimes with something wrong.
 pub fn listing_input(random: &mut Random) -> Vec<u8> {
     let mut left = FAMILIES.map(|family| port_stream(family, random));
     let longest_cut = random.pick(&[1, 2, 7, 30, 240, 240]);
     let mut packets = Vec::new();
     while left.iter().any(|stream| !stream.is_empty()) {
-        let port = random.below(3);
+        let port = random.below(FAMILIES.len());
         if !left[port].is_empty() {
             packets.push(next_packet(port, &mut left[port], longest_cut, random));
         }
@@ -391,8 +557,8 @@ fn spoil_the_packets(packets: &mut Vec<Vec<u8>>, random: &mut Random) {
 pub fn spoil_a_lead(packet: &mut [u8], random: &mut Random) {
     match random.below(6) {
         0 => packet[random.below(3)] = random.special(),
-        1 => packet[3 + random.below(2)] = random.pick(&[0, 1, 2, 0xFF]),
-        2 => packet[5] = random.pick(&[0, 1, 2, 3, 4, 0xFF]),
+        1 => packet[3 + random.below(2)] = random.pick(&[0, 1, 2, 3, 0xFF]),
+        2 => packet[5] = random.pick(&[0, 1, 2, 3, 4, 5, 0xFF]),
         3 => packet[6] = random.pick(&[0, 1, 239, 240, 241, 255]),
         4 => packet[random.below(7)] ^= 1 << random.below(8),
         _ => {}
@@ -401,10 +567,11 @@ pub fn spoil_a_lead(packet: &mut [u8], random: &mut Random) {
 
 /// Packets of one byte each, `packets` in all, the ports in turn, then `tail`.
 pub fn long_listing_input(random: &mut Random, packets: usize, tail: &[u8]) -> Vec<u8> {
-    let streams = FAMILIES.map(|family| stream(family, random, packets / 3 + 1));
+    let ports = FAMILIES.len();
+    let streams = FAMILIES.map(|family| stream(family, random, packets / ports + 1));
     let mut input = Vec::new();
     for order in 0..packets {
-        let (port, byte) = (order % 3, streams[order % 3][order / 3]);
+        let (port, byte) = (order % ports, streams[order % ports][order / ports]);
         input.extend(packet::packet(port as u8 + 1, &[byte]));
     }
     input.extend(tail);

@@ -5,10 +5,10 @@
 use crate::random::Random;
 use crate::streams::{self, Family};
 use right::{
-    by_packet, comlynx, eversolar, fronius, lines, listing, number, packet, Event, Reading,
+    by_packet, comlynx, drives, eversolar, fronius, lines, listing, number, packet, Event, Reading,
 };
 
-/// One stream in so many has stretches of more bytes than a damage can tell.
+/// One stream in so many has stretches or frames of more bytes than a damage can tell.
 const LONG_IN: usize = 60;
 
 /// What was told, and after how many bytes of the stream.
@@ -18,6 +18,7 @@ pub fn disagree(family: Family, random: &mut Random) -> Option<String> {
     let least = random.pick(&[10, 100, 1000]);
     let stream = match family {
         Family::ComLynx if random.one_in(LONG_IN) => streams::longest_stretches(random),
+        Family::Drives if random.one_in(LONG_IN) => streams::longest_frames(random),
         _ => streams::stream(family, random, least),
     };
     let longest_piece = random.pick(&[1, 3, 50, 500]);
@@ -46,6 +47,14 @@ pub fn disagree(family: Family, random: &mut Random) -> Option<String> {
                 pieces(&stream, random, longest_piece, read, of_fronius),
             )
         }
+        Family::Drives => {
+            let mut state = drives::fresh();
+            let read = |piece: &[u8], lent: &mut [u8]| drives::read(&mut state, piece, lent);
+            (
+                told(drives::events(&stream), of_drives),
+                pieces(&stream, random, longest_piece, read, of_drives),
+            )
+        }
     };
     (whole != in_pieces).then(|| format!("whole: {whole:?}\n  in pieces: {in_pieces:?}"))
 }
@@ -62,6 +71,11 @@ fn of_eversolar(message: &eversolar::Message) -> String {
 
 fn of_fronius(message: &fronius::Message) -> String {
     format!("{} {} {} {:?}", message.device, message.number, message.command, message.payload)
+}
+
+fn of_drives(message: &drives::Message) -> String {
+    let (opening, station) = (message.opening, message.station);
+    format!("{opening} {station:?} {} {:?}", message.letter, message.payload)
 }
 
 fn damage_in_words(number: u8, lost: u16) -> String {
@@ -101,9 +115,10 @@ fn pieces<M>(
 }
 
 pub fn listings_disagree(random: &mut Random) -> Option<String> {
-    let input = match random.one_in(LONG_IN) {
-        true => in_packets(1, &streams::longest_stretches(random)),
-        false => streams::listing_input(random),
+    let input = match random.below(LONG_IN) {
+        0 => in_packets(1, &streams::longest_stretches(random)),
+        1 => in_packets(4, &streams::longest_frames(random)),
+        _ => streams::listing_input(random),
     };
     let whole = listing::listing(&input);
     let by_packet = listed_by_packet(&input, random);
