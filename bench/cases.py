@@ -12,7 +12,7 @@ PAIRS = {
     "listing": ("sbrlist", "listing.c"),
 }
 
-NAMES = {"comlynx": "ComLynx", "eversolar": "Eversolar", "fronius": "Fronius"}
+NAMES = {"comlynx": "ComLynx", "eversolar": "Eversolar", "fronius": "Fronius", "drives": "drives"}
 PIECES = (1, 16, 240, 65536)
 # The limits: 1.0 where that is asked for, which is by `step` at 240 bytes a piece but for frames with no data. Elsewhere what it comes to today, rounded
 # up, so that a growth is noticed.
@@ -26,6 +26,9 @@ READING = {
     ("fronius", 0): (3.2, 1.0, 1.0, 1.0),
     ("fronius", 66): (3.4, 0.8, 1.0, 0.4),
     ("fronius", 127): (3.4, 0.8, 1.0, 0.3),
+    ("drives", 0): (1.2, 0.9, 1.0, 0.8),
+    ("drives", 5): (1.2, 0.9, 1.0, 0.9),
+    ("drives", 37): (1.1, 0.6, 1.0, 0.5),
 }
 # by `step_in_place`
 IN_PLACE = {
@@ -34,10 +37,13 @@ IN_PLACE = {
     ("comlynx", 255): (1.4, 0.7, 0.4, 0.4),
     ("eversolar", 0): (1.6, 1.0, 0.9, 0.9),
     ("eversolar", 66): (1.5, 0.5, 0.4, 0.3),
-    ("eversolar", 255): (1.5, 0.4, 0.2, 0.2),
+    ("eversolar", 255): (1.5, 0.5, 0.2, 0.2),
     ("fronius", 0): (1.7, 0.7, 0.7, 0.7),
     ("fronius", 66): (1.8, 0.6, 0.4, 0.3),
     ("fronius", 127): (1.8, 0.6, 0.3, 0.3),
+    ("drives", 0): (1.0, 0.8, 0.8, 0.8),
+    ("drives", 5): (1.1, 0.9, 0.9, 0.9),
+    ("drives", 37): (1.0, 0.6, 0.5, 0.5),
 }
 WRITING = {
     ("comlynx", 10): 0.9,
@@ -49,16 +55,23 @@ WRITING = {
     ("fronius", 0): 0.4,
     ("fronius", 66): 0.9,
     ("fronius", 127): 0.9,
+    ("drives", 0): 0.9,
+    ("drives", 5): 1.1,
+    ("drives", 37): 0.4,
 }
 CHECKSUM = {16: 1.5, 255: 1.1, 4096: 1.1}
+CHECKSUM_CALL = 5  # what `pace_writing` is told where no family writes
 GIVING = {0: 1.1, 127: 1.1, 254: 1.1}
 DAYS = {  # ports, one line byte in how many is changed, packets, limit
+    "clean, ports 1 to 3": ((1, 2, 3), 0, 512, 0.7),
     "clean": (frames.PORTS, 0, 512, 0.7),
     "clean, a quarter of it": (frames.PORTS, 0, 128, 0.7),
-    "damaged": (frames.PORTS, 60, 512, 0.7),
+    "damaged, ports 1 to 3": ((1, 2, 3), 60, 512, 0.7),
+    "damaged": (frames.PORTS, 60, 512, 0.8),
     "clean, ComLynx alone": ((1,), 0, 128, 0.7),
     "clean, Eversolar alone": ((2,), 0, 128, 0.5),
     "clean, Fronius alone": ((3,), 0, 128, 0.9),
+    "clean, drives alone": ((4,), 0, 128, 0.8),
 }
 
 
@@ -114,12 +127,13 @@ def calls(part, labels, what, data, limit, times=32):
 
 def writing():
     for (family, data), limit in WRITING.items():
-        yield calls("writing", (NAMES[family], data), frames.FAMILIES[family][0], some_data(data), limit)
+        number, _, _, made = frames.FAMILIES[family]
+        yield calls("writing", (NAMES[family], data), number, made(some_data(data)), limit)
 
 
 def checksum():
     for count, limit in CHECKSUM.items():
-        yield calls("checksum", (count,), 4, some_data(count), limit)
+        yield calls("checksum", (count,), CHECKSUM_CALL, some_data(count), limit)
 
 
 def roster(used):
@@ -153,20 +167,20 @@ def rows():
 
 def alike():
     """Inputs on which nothing is counted: the pair, what it is, the input, and whether messages and damages are both to be told."""
-    for family, (number, _, most) in frames.FAMILIES.items():
-        for data, every in ((10, 20), (66, 60), (120, 200)):
-            text = frames.spoilt(frames.stream(family, data, frames.MOST)[0], every)
+    for family, (number, _, most, made) in frames.FAMILIES.items():
+        for data, every in ((10, 20), (min(66, most), 60), (min(120, most), 200)):
+            text = frames.spoilt(family, frames.stream(family, data, frames.MOST)[0], every)
             for piece in (1, 16, 240, 65536):
                 what = f"{NAMES[family]} with {data} data bytes, one in {every} changed, in pieces of {piece}"
                 for pair in ("reading", "in_place"):
                     yield pair, what, bytes([number]) + word(piece) + text, True
         for count in (0, 1, most, most + 1):
-            for data in (some_data(count), bytes(frames.SPECIAL[k % 3] for k in range(count))):
+            for data in (made(some_data(count)), bytes(frames.SPECIAL[k % 3] for k in range(count))):
                 for room in (0, 7, count + 8, count + 11, count + 12, 2 * count + 12, 600):
                     what = f"{NAMES[family]}, {count} data bytes written into {room}"
                     yield "writing", what, writing_input(number, 3, data, room), False
     for count in (0, 1, 2, 255, 4096, 60000):
-        yield "writing", f"checksum of {count} bytes", writing_input(4, 3, some_data(count)), False
+        yield "writing", f"checksum of {count} bytes", writing_input(CHECKSUM_CALL, 3, some_data(count)), False
     sound, full = roster(100), roster(254)
     freed = full[:17 * 30] + bytes(17) + full[17 * 31:]
     for what, text in (
@@ -186,5 +200,6 @@ def alike():
         yield "listing", f"listing, one byte in {every} changed", frames.day(300, every), True
     for length in (65534, 65535, 65536):
         yield "listing", f"listing, {length} bytes between two flags", frames.cut(1, b"~" + bytes(length) + b"~"), False
+        yield "listing", f"listing, {length} bytes from ENQ through EOT", frames.cut(4, b"\5" + bytes(length - 2) + b"\4"), False
     for what, text in frames.refused():
         yield "listing", f"listing, {what}", text, False

@@ -1,6 +1,6 @@
 """Frames of each family, one after another: as many as fit, all of one length, or such as a day has, cut into packets.
 
-Addresses, codes and data are random, by a fixed seed. Written from document 01 alone.
+Addresses, codes and data are random, by a fixed seed. Written from documents 01 and 02 alone.
 """
 import itertools
 import random
@@ -8,6 +8,8 @@ import random
 MOST = 65536  # bytes that `pace_reading` reads, and packets that `sbrlist` lists
 LINE = 240  # line bytes of a full packet
 SPECIAL = bytes([0x7E, 0x7D, 0x5E, 0xAA, 0x55, 0x80, 0x81, 0x00])  # bytes that mean something to some family
+CONTROL = bytes([0x04, 0x05, 0x06, 0x15, 0x2F, 0x3A, 0x40, 0x47, 0x61])  # and to drives: ends of a frame, and characters beside their sets
+HEX = b"0123456789ABCDEF"
 
 
 def fcs(body):
@@ -49,28 +51,42 @@ def fronius(rng, data):
     return b"\x80\x80\x80" + body + bytes([sum(body) % 256]), command
 
 
-# each family's byte, its frame, and the data that a message of it has at most
-FAMILIES = {"comlynx": (1, comlynx, 255), "eversolar": (2, eversolar, 255), "fronius": (3, fronius, 127)}
+def drives(rng, data):
+    """The frame, and its letter: a request, or where the data are short enough perhaps a reply."""
+    opening, letter = rng.choice(b"\x05\x06\x15") if len(data) <= 32 else 0x05, rng.choice(b"RWXY")
+    covered = digits(rng.randbytes(2)) + bytes([letter]) + data
+    return bytes([opening]) + covered + b"%02X" % (sum(covered) % 256) + b"\4", letter
 
 
-def spoilt(text, every):
+def digits(data):
+    """Bytes as so many characters in ASCII hex."""
+    return bytes(HEX[byte % 16] for byte in data)
+
+
+# each family's byte, its frame, the data that a message of it has at most, and the data that are made of bytes
+FAMILIES = {"comlynx": (1, comlynx, 255, bytes), "eversolar": (2, eversolar, 255, bytes), "fronius": (3, fronius, 127, bytes),
+            "drives": (4, drives, 37, digits)}
+
+
+def spoilt(family, text, every):
     """Bytes of which about one in `every` is changed, often to one that means something."""
+    special = SPECIAL + CONTROL if family == "drives" else SPECIAL
     rng = random.Random(f"{every} of {len(text)}")
     out = bytearray(text)
     for at in range(len(out)):
         if rng.randrange(every) == 0:
-            out[at] = rng.choice(SPECIAL) if rng.randrange(2) else rng.randrange(256)
+            out[at] = rng.choice(special) if rng.randrange(2) else rng.randrange(256)
     return bytes(out)
 
 
 def stream(family, count, most):
     """As many frames of so many data bytes as fit; how many they are; and the line that `pace_reading` prints of them."""
-    number, frame, limit = FAMILIES[family]
+    number, frame, limit, made = FAMILIES[family]
     assert 0 <= count <= limit and 0 <= most <= MOST
     rng = random.Random(f"{family} {count}")
     out, messages, check = bytearray(), 0, 0
     while True:
-        data = rng.randbytes(count)
+        data = made(rng.randbytes(count))
         wire, code = frame(rng, data)
         if len(out) + len(wire) > most:
             return bytes(out), messages, f"{number} {messages} 0 0 {check}\n"
@@ -92,6 +108,8 @@ def sizes(rng, family):
         return 255 if rng.randrange(20) == 0 else rng.randrange(65)
     if family == "eversolar":
         return rng.choice([0, rng.randrange(60, 121)])
+    if family == "drives":  # one address is asked for, and up to eight words come back
+        return rng.choice([5, 4 * rng.randrange(1, 9)])
     return rng.choice([0, 3])
 
 
@@ -102,8 +120,8 @@ def content(rng, count):
 
 def mixed(rng, family, size):
     """Sound frames of many lengths one after another, the last one cut off."""
-    frame = FAMILIES[family][1]
-    pool = [frame(rng, content(rng, sizes(rng, family)))[0] for _ in range(POOL)]
+    _, frame, _, made = FAMILIES[family]
+    pool = [frame(rng, made(content(rng, sizes(rng, family))))[0] for _ in range(POOL)]
     out = bytearray()
     while len(out) < size:
         out += rng.choice(pool)
@@ -111,7 +129,8 @@ def mixed(rng, family, size):
 
 
 def packet(port, line):
-    return b"SBR\0\1" + bytes([port, len(line)]) + line
+    version = b"\0\2" if port == FAMILIES["drives"][0] else b"\0\1"
+    return b"SBR" + version + bytes([port, len(line)]) + line
 
 
 def cut(port, line):
@@ -125,7 +144,7 @@ def day(packets, every=0, ports=PORTS):
     turns = -(-packets // len(ports))
     lines = [mixed(rng, FAMILY[port], turns * LINE) for port in ports]
     if every:
-        lines = [spoilt(text, every) for text in lines]
+        lines = [spoilt(FAMILY[port], text, every) for port, text in zip(ports, lines)]
     cuts = (packet(port, text[k * LINE:(k + 1) * LINE]) for k in range(turns) for port, text in zip(ports, lines))
     return b"".join(itertools.islice(cuts, packets))
 
@@ -135,6 +154,7 @@ def refused():
     good = packet(3, bytes.fromhex("8080800000000101"))
     yield "no input", b""
     for what, bad in (("mark", b"SBS\0\1\1\1~"), ("version", b"SBR\1\0\1\1~"), ("port", b"SBR\0\1\0\1~"), ("port", b"SBR\0\1\4\1~"),
+                      ("port", b"SBR\0\2\1\1~"), ("port", b"SBR\0\2\3\1~"), ("port", b"SBR\0\2\5\1~"), ("version", b"SBR\0\3\4\1~"),
                       ("count", b"SBR\0\1\1\0~"), ("count", b"SBR\0\1\1\xf1~"), ("end in the head", b"SBR\0\1\1"),
                       ("end in the line", b"SBR\0\1\1\2~")):
         yield f"a wrong {what}", good + bad

@@ -104,7 +104,7 @@ static void damage(struct listing *l, char port, int number, size lost)
     u8 *p = line_at(l);
     *p++ = (u8)port;
     *p++ = ' ';
-    *p++ = (u8)('0' + number);
+    p = put_decimal(p, (size)number);
     *p++ = ' ';
     line_ends(l, put_decimal(p, lost < LOST_MAX ? lost : LOST_MAX));
     l->damages++;
@@ -315,13 +315,80 @@ static void fronius_take(struct fronius *r, const u8 *piece, size n, struct list
     }
 }
 
+/* ---- drives */
+
+enum { DR_HEADER = 3, DR_HELD = DR_REQUEST - 2, DR_LOOKING = 0, DR_COUNT_MAX = LOST_MAX - 2 };
+
+struct drives {
+    u8 held[DR_HELD]; /* the characters since the opening byte, as far as there is room */
+    u8 stage;         /* in a frame its opening byte */
+    size count;       /* how many have come since; DR_COUNT_MAX stands for that or more */
+};
+
+/* the checks of a frame, in order; 0 where all hold */
+static int drives_judge(const struct drives *r)
+{
+    const u8 *s = r->held;
+    size n = r->count;
+    u8 sum = 0;
+    if (n + 2 < DR_LEAST || frame_most(r->stage) < n + 2)
+        return WRONG_BODY_LENGTH;
+    if (!is_hex(s[0]) || !is_hex(s[1]) || !is_letter(s[2]))
+        return WRONG_CHARACTER;
+    for (size i = DR_HEADER; i < n; i++)
+        if (!is_hex(s[i]))
+            return WRONG_CHARACTER;
+    for (size i = 0; i < n - 2; i++)
+        sum = (u8)(sum + s[i]);
+    if (s[n - 2] != hex_digit(sum >> 4) || s[n - 1] != hex_digit(sum & 15))
+        return WRONG_SUM;
+    return 0;
+}
+
+static void drives_close(struct drives *r, struct listing *l)
+{
+    const u8 *s = r->held;
+    int wrong = drives_judge(r);
+    if (wrong)
+        damage(l, '4', wrong, r->count + 2);
+    else
+        message(l, '4', &r->stage, 1, s, s + 2, 1, s + DR_HEADER, r->count - DR_HEADER - 2);
+    r->stage = DR_LOOKING;
+    r->count = 0;
+}
+
+static void drives_take(struct drives *r, const u8 *piece, size n, struct listing *l)
+{
+    for (size i = 0; i < n; i++) {
+        u8 b = piece[i];
+        if (r->stage == DR_LOOKING) {
+            if (opens(b))
+                r->stage = b;
+        } else if (b == EOT) {
+            drives_close(r, l);
+        } else {
+            if (r->count < DR_HELD)
+                r->held[r->count] = b;
+            if (r->count < DR_COUNT_MAX)
+                r->count++;
+        }
+    }
+}
+
 /* ---- packets */
 
 struct readers {
     struct comlynx comlynx;
     struct eversolar eversolar;
     struct fronius fronius;
+    struct drives drives;
 };
+
+/* whether packets of a version carry a port */
+static int carries(u8 version, u8 port)
+{
+    return version == 1 ? 1 <= port && port <= 3 : port == 4;
+}
 
 /* what is wrong with the packet at the front of n bytes; 0 where it is whole */
 static int refusal(const u8 *s, size n)
@@ -330,9 +397,9 @@ static int refusal(const u8 *s, size n)
         return BYTES_MISSING;
     if (s[0] != 'S' || s[1] != 'B' || s[2] != 'R')
         return WRONG_MARK;
-    if (s[3] != 0 || s[4] != 1)
+    if (s[3] != 0 || (s[4] != 1 && s[4] != 2))
         return WRONG_VERSION;
-    if (s[5] < 1 || 3 < s[5] || s[6] < 1 || PIECE_MAX < s[6])
+    if (!carries(s[4], s[5]) || s[6] < 1 || PIECE_MAX < s[6])
         return WRONG_PORT_OR_COUNT;
     if (n - LEAD < s[6])
         return BYTES_MISSING;
@@ -348,8 +415,11 @@ static void take(struct readers *r, u8 port, const u8 *piece, size n, struct lis
     case 2:
         eversolar_take(&r->eversolar, piece, n, l);
         break;
-    default:
+    case 3:
         fronius_take(&r->fronius, piece, n, l);
+        break;
+    default:
+        drives_take(&r->drives, piece, n, l);
     }
 }
 

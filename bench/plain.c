@@ -1,4 +1,4 @@
-/* The readers of document 01 in plain C, for the bench to measure beside: a state machine each, byte by byte, its state
+/* The readers of documents 01 and 02 in plain C, for the bench to measure beside: a state machine each, byte by byte, its state
  * in a struct. Reads what `pace_reading` reads, and prints the line that it prints. All stands in one file, so that the compiler
  * may put a reader into its host's loop, as it may in `pace_reading`. */
 #include "host.h"
@@ -309,6 +309,78 @@ static int fronius_step(struct fronius *r, const u8 *piece, size n, u8 *lent, si
     return DONE;
 }
 
+/* ---- drives */
+
+enum { DR_HEADER = 3, DR_HELD = DR_REQUEST - 2, DR_LOOKING = 0, DR_COUNT_MAX = LOST_MAX - 2 };
+
+struct drives {
+    u8 held[DR_HELD]; /* the characters since the opening byte, as far as there is room */
+    u8 stage;         /* in a frame its opening byte */
+    size count;       /* how many have come since; DR_COUNT_MAX stands for that or more */
+};
+
+struct drives_header {
+    u8 opening, station[2], letter;
+    size len;
+};
+
+/* the checks of a frame, in order */
+static int drives_judge(const struct drives *r, u8 *lent, struct drives_header *h)
+{
+    const u8 *s = r->held;
+    size n = r->count;
+    u8 sum = 0;
+    if (n + 2 < DR_LEAST || frame_most(r->stage) < n + 2)
+        return WRONG_BODY_LENGTH;
+    if (!is_hex(s[0]) || !is_hex(s[1]) || !is_letter(s[2]))
+        return WRONG_CHARACTER;
+    for (size i = DR_HEADER; i < n; i++)
+        if (!is_hex(s[i]))
+            return WRONG_CHARACTER;
+    for (size i = 0; i < n - 2; i++)
+        sum = (u8)(sum + s[i]);
+    if (s[n - 2] != hex_digit(sum >> 4) || s[n - 1] != hex_digit(sum & 15))
+        return WRONG_SUM;
+    h->opening = r->stage;
+    h->station[0] = s[0];
+    h->station[1] = s[1];
+    h->letter = s[2];
+    h->len = n - DR_HEADER - 2;
+    memcpy(lent, s + DR_HEADER, h->len);
+    return MESSAGE;
+}
+
+static int drives_step(struct drives *r, const u8 *piece, size n, u8 *lent, size room, struct drives_header *h, size *used, u16 *lost)
+{
+    *used = 0;
+    if (r->stage == DR_LOOKING ? r->count != 0 : !opens(r->stage) || DR_COUNT_MAX < r->count)
+        return SPOILT;
+    if (room < LENT)
+        return NO_ROOM;
+    for (size i = 0; i < n; i++) {
+        u8 b = piece[i];
+        int answer;
+        if (r->stage == DR_LOOKING) {
+            if (opens(b))
+                r->stage = b;
+        } else if (b == EOT) {
+            answer = drives_judge(r, lent, h);
+            *lost = (u16)(r->count + 2);
+            r->stage = DR_LOOKING;
+            r->count = 0;
+            *used = i + 1;
+            return answer;
+        } else {
+            if (r->count < DR_HELD)
+                r->held[r->count] = b;
+            if (r->count < DR_COUNT_MAX)
+                r->count++;
+        }
+    }
+    *used = n;
+    return DONE;
+}
+
 /* ---- the host: as `pace_reading` */
 
 struct tally {
@@ -330,6 +402,12 @@ static size checked(size check, u8 code, const u8 *payload, size n)
     return check * 3 + code + sum;
 }
 
+/* of a reader's answers: 21 is a damage */
+static int refuses(int answer)
+{
+    return answer > WRONG_LENGTH_BYTE && answer != WRONG_CHARACTER;
+}
+
 /* one function a family, the same but for its reader and its code byte */
 #define OF(family, code)                                                                                   \
     static struct tally of_##family(const u8 *input, size len, size piece, u8 *lent)                       \
@@ -347,7 +425,7 @@ static size checked(size check, u8 code, const u8 *payload, size n)
             if (answer == MESSAGE) {                                                                       \
                 t.messages++;                                                                              \
                 t.check = checked(t.check, h.code, lent, h.len);                                           \
-            } else if (answer > WRONG_LENGTH_BYTE) {                                                       \
+            } else if (refuses(answer)) {                                                                  \
                 break;                                                                                     \
             } else if (answer != DONE) {                                                                   \
                 t.damages++;                                                                               \
@@ -360,6 +438,7 @@ static size checked(size check, u8 code, const u8 *payload, size n)
 OF(comlynx, kind)
 OF(eversolar, function)
 OF(fronius, command)
+OF(drives, letter)
 
 int main(void)
 {
@@ -380,6 +459,9 @@ int main(void)
         break;
     case 3:
         t = of_fronius(input, len, piece, lent);
+        break;
+    case 4:
+        t = of_drives(input, len, piece, lent);
         break;
     }
     print(first[0], ' ');

@@ -1,4 +1,4 @@
-/* The writers of document 01 and the ComLynx checksum in plain C, for the bench to measure beside. Reads what `pace_writing` reads, and
+/* The writers of documents 01 and 02 and the ComLynx checksum in plain C, for the bench to measure beside. Reads what `pace_writing` reads, and
  * writes what it writes. */
 #include "host.h"
 
@@ -121,6 +121,36 @@ static struct written fronius_write(u8 device, u8 number, u8 command, const u8 *
     return done(frame);
 }
 
+/* ---- drives */
+
+enum { DR_LEAD = 4 };
+
+static struct written drives_write(u8 opening, const u8 station[2], u8 letter, const u8 *payload, size n, u8 *to, size room)
+{
+    size frame = DR_LEAST + n;
+    if (frame_most(opening) < frame)
+        return refused(TOO_LONG);
+    if (!opens(opening) || !is_hex(station[0]) || !is_hex(station[1]) || !is_letter(letter))
+        return refused(WRONG_CHARACTER);
+    for (size i = 0; i < n; i++)
+        if (!is_hex(payload[i]))
+            return refused(WRONG_CHARACTER);
+    if (room < frame)
+        return refused(NO_ROOM);
+    to[0] = opening;
+    to[1] = station[0];
+    to[2] = station[1];
+    to[3] = letter;
+    memcpy(to + DR_LEAD, payload, n);
+    u8 sum = 0;
+    for (size i = 1; i < DR_LEAD + n; i++)
+        sum = (u8)(sum + to[i]);
+    to[DR_LEAD + n] = hex_digit(sum >> 4);
+    to[DR_LEAD + n + 1] = hex_digit(sum & 15);
+    to[DR_LEAD + n + 2] = EOT;
+    return done(frame);
+}
+
 /* ---- the host: as `pace_writing` */
 
 enum { INPUT = 65536, LENT = 600 };
@@ -160,6 +190,16 @@ static size fronius_frames(size times, const u8 *payload, size n, u8 *lent, size
     return sum;
 }
 
+static size drives_frames(size times, const u8 *payload, size n, u8 *lent, size room, size look)
+{
+    size sum = 0;
+    for (size k = 0; k < times; k++) {
+        u8 station[2] = {hex_digit(k >> 4 & 15), hex_digit(k & 15)};
+        sum += told(drives_write(ENQ, station, 'R', payload, n, lent, room), lent, room, look);
+    }
+    return sum;
+}
+
 /* each checksum goes on from the one before, so that none can be left out */
 static size checksums(size times, const u8 *bytes, size n)
 {
@@ -189,6 +229,9 @@ int main(void)
         sum = fronius_frames(times, input, len, lent, room, first[5]);
         break;
     case 4:
+        sum = drives_frames(times, input, len, lent, room, first[5]);
+        break;
+    case 5:
         sum = checksums(times, input, len);
         break;
     }

@@ -7,13 +7,14 @@ use libc::STDOUT_FILENO;
 use numbers::least;
 use numbers::wide;
 use test_parts::COMLYNX;
+use test_parts::DRIVES;
 use test_parts::EVERSOLAR;
 use test_parts::FRONIUS;
 use test_parts::size_at;
 use test_parts::word_at;
 
 // What is called where it is no family's writer.
-const CHECKSUM: u8 = 4;
+const CHECKSUM: u8 = 5;
 
 // Where the input has what is called, how often, how much room is lent and which byte is looked at. The data stand behind them.
 const CALLED: usize = 0;
@@ -39,6 +40,12 @@ fn told(w: Written, lent: &[u8], look: usize) -> usize {
         Written::Done(length) => std::num::wrapping_add_usize(length, size_at(lent, look)),
         Written::Refused(why) => REFUSED + wide(why.number()),
     }
+}
+
+// The last hex digit of a number.
+fn digit(n: u16) -> u8 {
+    let low = (n % 16) as u8;
+    if low < 10 { 0x30 + low } else { 0x37 + low }
 }
 
 // One loop a family. A number of the message counts up, so that no two calls write the same.
@@ -79,6 +86,20 @@ fn fronius_frames(times: u16, look: usize, bytes: &[u8], lent: &mut [u8]) -> usi
     sum
 }
 
+// The station counts up where the others have a number: its two characters go through all that are in the set.
+fn drives_frames(times: u16, look: usize, bytes: &[u8], lent: &mut [u8]) -> usize {
+    let mut sum: usize = 0;
+    let mut n: u16 = 0;
+    while n < times {
+        let first = digit(n / 16);
+        let second = digit(n);
+        let w = drives::write(0x05, first, second, 0x52, bytes, lent);
+        sum = std::num::wrapping_add_usize(sum, told(w, &*lent, look));
+        n += 1;
+    }
+    sum
+}
+
 // Each checksum goes on from the one before, so that none can be left out.
 fn checksums(times: u16, bytes: &[u8]) -> u16 {
     let mut state: u16 = 0xffff;
@@ -100,6 +121,9 @@ fn sum_of(what: u8, times: u16, look: usize, bytes: &[u8], lent: &mut [u8]) -> u
     }
     if what == FRONIUS {
         return fronius_frames(times, look, bytes, lent);
+    }
+    if what == DRIVES {
+        return drives_frames(times, look, bytes, lent);
     }
     if what == CHECKSUM {
         return checksums(times, bytes) as usize;
