@@ -10,7 +10,8 @@ use borrow.Author.Tests.{eqb-true, leb-true, le-leb, lt-leb, ltb-true, ltb-false
 use native.Mathlib.Omega.{arith}
 use Rattle.numbers.proofs.TestLaws.{both, either}
 use Rattle.stream.proofs.BytesOfParts.{bytes-cons}
-use Rattle.drives.specs.Wire.{enq, ack, nak, eot, opens, isHex, allHex, isLetter, hexDigit}
+use Rattle.drives.specs.Wire.{enq, ack, nak, opens, isHex, allHex, isLetter, hexDigit}
+use Rattle.drives.specs.Demands.{NoEot}
 
 pub hex-range : (c : ℕ) → isHex c ≡ true → (0x30 ≤ c) × (c ≤ 0x46)
 unfolding isHex
@@ -44,11 +45,6 @@ digit-hex n h = go (ltb n 10) refl
     go false e =
         let le = ltb-false n 10 e in
         rw (le-leb 0x30 (0x37 + n) (omega arith), lt-leb (0x37 + n) 0x39 (omega arith), le-leb 0x41 (0x37 + n) (omega arith), le-leb (0x37 + n) 0x46 (omega arith))
-
--- no EOT among them
-abbrev pub NoEot : List ℕ → Type 0
-NoEot [] = Unit {0}
-NoEot (b ∷ bs) = (b ≡ eot → ⊥) × NoEot bs
 
 pub hex-no-eot : (cs : List ℕ) → allHex cs ≡ true → NoEot cs
 hex-no-eot [] e = tt

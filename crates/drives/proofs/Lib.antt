@@ -2,6 +2,7 @@ pub mod CharacterSets
 pub mod MachineMoves
 pub mod StageRanges
 pub mod FrameLimits
+pub mod FoundAtEot
 pub mod FillScans
 pub mod JudgedIsDelivered
 pub mod WriterWritesFrame

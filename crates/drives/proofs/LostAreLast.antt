@@ -11,7 +11,6 @@ use borrow.Author.Tests.{eqb-true}
 use native.Mathlib.Omega.{arith}
 use Rattle.answers.specs.Answer.{need}
 use Rattle.stream.specs.Event.{Event, message, damage}
-use Rattle.stream.specs.Rule.{Settled}
 use Rattle.stream.proofs.BorneOutByBytes.{in-test, none-found}
 use Rattle.stream.proofs.LostAreLast as Last
 use Rattle.stream.proofs.LostAreLast.{hit, found-loses, loses-on, loses-all}

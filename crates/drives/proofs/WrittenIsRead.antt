@@ -1,15 +1,15 @@
 -- The rule reads what is written: no character of a frame that the writer takes is EOT, and its tests hold.
 -- Assumes nothing.
-use Prim.Native.Nat.{ℕ, suc, _+_, _-_, _/_, _%_, _<_}
-use mathlib.Core.Path.{_≡_, refl, sym, ap, ap₂, _∙_}
+use Prim.Native.Nat.{ℕ, _+_, _-_, _/_, _%_, _<_}
+use mathlib.Core.Path.{_≡_, refl, ap, ap₂, _∙_}
 use mathlib.Core.Bool.{true}
 use mathlib.Core.Option.{Option, some}
-use mathlib.Core.List.{List, [], _∷_, _++_, append-nil, append-assoc}
+use mathlib.Core.List.{List, [], _∷_, _++_}
 use lib.ListN.{length, take, getD, length-append}
 use lib.Seq.{take-append-seam, getD-at, getD-append-add}
 use lib.Dec.{T}
 use lib.Pow.{areBytes}
-use borrow.Author.Tests.{le-leb, eq-eqb, ne-eqb}
+use borrow.Author.Tests.{le-leb, eq-eqb}
 use native.Mathlib.Nat.{mod-lt}
 use native.Mathlib.Omega.{arith}
 use Rattle.numbers.proofs.TestLaws.{both}
@@ -18,25 +18,11 @@ use Rattle.stream.specs.Event.{Event, message}
 use Rattle.stream.specs.Rule.{Settled}
 use Rattle.stream.proofs.BytesOfParts.{bytes-cons, bytes-append}
 use Rattle.drives.specs.Wire.{Message, Takes, eot, isHex, allHex, isLetter, proper, frameLeast, frameMost, checksum, hexDigit, sumOf, covered, between, wire, messageOf}
-use Rattle.drives.specs.Rules.{sized, agrees, judged, frameLength, judge, within, sought, rule}
-use Rattle.drives.proofs.CharacterSets.{hex-range, letter-range, opens-range, digit-hex, NoEot, hex-no-eot, hex-bytes, hex-append}
+use Rattle.drives.specs.Rules.{sized, agrees, judged, frameLength, judge, rule}
+use Rattle.drives.specs.Demands.{NoEot}
+use Rattle.drives.proofs.CharacterSets.{hex-range, letter-range, opens-range, digit-hex, hex-no-eot, hex-bytes, hex-append}
 use Rattle.drives.proofs.FrameLimits.{longest}
-
--- ---- a frame ends with the first EOT
-
-abbrev found : Event Message → ℕ → Option (Settled (Event Message))
-found e n = some (record { event = e; used = n })
-
-within-characters : (w : List ℕ) → NoEot w → (at o : ℕ) (came rest : List ℕ) → within at o came (w ++ (eot ∷ rest)) ≡ found (judge o (came ++ w)) (at + length w + 1)
-unfolding within
-within-characters [] k at o came rest =
-    let e : at + 1 ≡ at + 0 + 1 = omega arith in
-    ap₂ (λ (l : List ℕ) (n : ℕ). found (judge o l) n) (sym (append-nil came)) e
-within-characters (b ∷ w) k at o came rest =
-    let e : at + 1 + length w + 1 ≡ at + suc (length w) + 1 = omega arith in
-    rw (ne-eqb b eot (k .0))
-    (within-characters w (k .1) (at + 1) o (came ++ (b ∷ [])) rest
-    ∙ ap₂ (λ (l : List ℕ) (n : ℕ). found (judge o l) n) (append-assoc came (b ∷ []) w) e)
+use Rattle.drives.proofs.FoundAtEot.{found-at-eot}
 
 -- ---- the sum is in its set
 
@@ -124,10 +110,10 @@ module _ (m : Message) (t : Takes m) where
       rw (is-sized (frameLength (between m)) n, is-proper, does-agree) (ap message is-message)
 
   pub reads : rule tt (wire m) ≡ some (record { event = message m; used = length (wire m) })
-  unfolding sought
   reads =
-      let n : 1 + length (between m) + 1 ≡ length (wire m) = omega (arith, length-append (between m) (eot ∷ [])) in
-      rw (t .opening) (within-characters (between m) no-eot 1 (m .opening) [] [] ∙ ap₂ found judge-written n)
+      let n : 0 + (length (between m) + 2) ≡ length (wire m) = omega (arith, length-append (between m) (eot ∷ [])) in
+      found-at-eot .frame [] (between m) [] (m .opening) tt (t .opening) no-eot
+      ∙ ap₂ {C = Option (Settled (Event Message))} (λ (e : Event Message) (k : ℕ). some (record { event = e; used = k })) judge-written n
 
   pub wire-bytes : T (areBytes (wire m))
   wire-bytes =

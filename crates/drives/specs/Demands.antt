@@ -1,8 +1,8 @@
 -- Drives as a family, and what is demanded of it: as of every family, and what is its own.
-use Prim.Native.Nat.{ℕ, min}
+use Prim.Native.Nat.{ℕ, min, _+_}
 use mathlib.Core.Path.{_≡_}
-use mathlib.Core.Bool.{true}
-use mathlib.Core.Option.{some}
+use mathlib.Core.Bool.{true, false}
+use mathlib.Core.Option.{none, some}
 use mathlib.Core.List.{List, [], _∷_, _++_}
 use lib.ListN.{length, take}
 use Rattle.answers.specs.Written.{lengthOf}
@@ -12,7 +12,7 @@ use Rattle.stream.specs.Call.{seenBy}
 use Rattle.stream.specs.Family.{Family}
 use Rattle.stream.specs.Demands.{Demands, EndsWith}
 use Rattle.drives.specs.Wire.{Message, Takes, opens, wire}
-use Rattle.drives.specs.Rules.{rule}
+use Rattle.drives.specs.Rules.{judge, rule}
 use Rattle.drives.specs.Machine.{fresh}
 use Rattle.drives.specs.Reader.{join, shown, IsStep}
 use Rattle.drives.specs.Writer.{IsWritten}
@@ -43,6 +43,24 @@ abbrev pub Demanded : Type 0
 Demanded = Demands drives
 
 -- ---- its own
+
+-- no opening byte is among these
+abbrev pub NoOpening : List ℕ → Type 0
+NoOpening [] = Unit {0}
+NoOpening (b ∷ bs) = (opens b ≡ false) × NoOpening bs
+
+-- no EOT is
+abbrev pub NoEot : List ℕ → Type 0
+NoEot [] = Unit {0}
+NoEot (b ∷ bs) = (b ≡ 0x04 → ⊥) × NoEot bs
+
+-- BYTES BEFORE AN OPENING BYTE ARE IGNORED; A FRAME IS JUDGED AT ITS EOT, whatever stands in it and whatever follows. Every list of bytes is one of these three
+pub record FoundAtEot : Type 0 where
+  pub frame :
+      (noise came rest : List ℕ) (opening : ℕ) → NoOpening noise → opens opening ≡ true → NoEot came
+      → rule tt (noise ++ (opening ∷ (came ++ (0x04 ∷ rest)))) ≡ some (record { event = judge opening came; used = length noise + (length came + 2) })
+  pub unfinished : (noise came : List ℕ) (opening : ℕ) → NoOpening noise → opens opening ≡ true → NoEot came → rule tt (noise ++ (opening ∷ came)) ≡ none
+  pub nothing : (noise : List ℕ) → NoOpening noise → rule tt noise ≡ none
 
 -- a frame that is lost with a damage, from its opening byte through its EOT, 65,535 standing for that many bytes or more
 pub record LostWith (lost : ℕ) (frame : List ℕ) : Type 0 where
