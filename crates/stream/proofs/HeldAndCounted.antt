@@ -2,7 +2,7 @@
 -- or more.
 -- Assumes nothing.
 use Prim.Native.Nat.{ℕ, min, _+_, _≤_, _<_}
-use mathlib.Core.Path.{_≡_, refl, sym, ap, _∙_}
+use mathlib.Core.Path.{_≡_, sym, ap, _∙_}
 use mathlib.Core.List.{List, [], _∷_, _++_}
 use lib.ListN.{length, take, set, length-append, length-set}
 use lib.Seq.{take-all, take-nil, take-append-le, take-suc-set}
