@@ -3,7 +3,7 @@
 use Prim.Native.Nat.{ℕ, zero, suc, _+_, _≤_}
 use mathlib.Core.Path.{_≡_, refl, sym, ap, _∙_}
 use mathlib.Core.Option.{Option, none, some}
-use mathlib.Core.List.{List, [], _∷_, _++_, map, flatten, append-nil}
+use mathlib.Core.List.{List, [], _∷_, _++_, map, flatten, append-nil, cons≢nil}
 use lib.ListN.{length, take, drop, length-drop}
 use native.Mathlib.Nat.{add-suc, suc-add, add-zero}
 use native.Mathlib.Numerals.{add-one}
@@ -47,6 +47,18 @@ module _ {S E : Type 0} (next : S → ℕ → Moved S E) where
       ap (before (next s x .event)) (events-append (next s x .state) a b)
       ∙ before-append (next s x .event) (events (next s x .state) a) (events (after (next s x .state) a) b)
 
+  settledBefore-append : (o : Option E) (at : ℕ) (ps qs : List (Settled E)) → settledBefore o at (ps ++ qs) ≡ settledBefore o at ps ++ qs
+  settledBefore-append none at ps qs = refl
+  settledBefore-append (some e) at ps qs = refl
+
+  pub settledIn-append : (at : ℕ) (s : S) (a b : List ℕ) → settledIn at s (a ++ b) ≡ settledIn at s a ++ settledIn (at + length a) (after s a) b
+  settledIn-append at s [] b = rw add-zero
+  settledIn-append at s (x ∷ a) b =
+      let e : suc at + length a ≡ at + suc (length a) = omega arith in
+      ap (settledBefore (next s x .event) (suc at))
+      (settledIn-append (suc at) (next s x .state) a b ∙ ap (λ (n : ℕ). settledIn (suc at) (next s x .state) a ++ settledIn n (after (next s x .state) a) b) e)
+      ∙ settledBefore-append (next s x .event) (suc at) (settledIn (suc at) (next s x .state) a) (settledIn (at + suc (length a)) (after (next s x .state) a) b)
+
   -- without the places
   unplaced : (o : Option E) (at : ℕ) (ps : List (Settled E)) (es : List E) → map (λ p. p .event) ps ≡ es → map (λ p. p .event) (settledBefore o at ps) ≡ before o es
   unplaced none at ps es h = h
@@ -55,6 +67,14 @@ module _ {S E : Type 0} (next : S → ℕ → Moved S E) where
   pub settledIn-events : (at : ℕ) (s : S) (bs : List ℕ) → map (λ p. p .event) (settledIn at s bs) ≡ events s bs
   settledIn-events at s [] = refl
   settledIn-events at s (b ∷ bs) = unplaced (next s b .event) (suc at) _ _ (settledIn-events (suc at) (next s b .state) bs)
+
+  -- where there is no event, there is none at any place
+  no-places : (ps : List (Settled E)) → map (λ p. p .event) ps ≡ [] → ps ≡ []
+  no-places [] e = refl
+  no-places (p ∷ ps) e = absurd (cons≢nil e)
+
+  pub settledIn-none : (at : ℕ) (s : S) (bs : List ℕ) → events s bs ≡ [] → settledIn at s bs ≡ []
+  settledIn-none at s bs e = no-places (settledIn at s bs) (settledIn-events at s bs ∙ e)
 
   -- ---- one call, and what is left of its piece, come to what the piece comes to
 

@@ -21,7 +21,7 @@ use Rattle.stream.specs.Demands.{asTold, EndsWith, Accepts, BorneOut, So
 use Rattle.stream.proofs.BytesOfParts.{bytes-append, bytes-left, bytes-right, bytes-drop}
 use Rattle.stream.proofs.CallsComeTo.{settledBefore, events, settledIn, settledIn-events, scan-settledIn}
 use Rattle.stream.proofs.LoopScans.{scan-used, scan-uses, scan-none, scan-front}
-use Rattle.stream.proofs.WrittenIsGiven.{Reads, all-given, given, told-apart}
+use Rattle.stream.proofs.WrittenIsGiven.{gotAt, Reads, all-given, given-at, given, told-apart}
 use Rattle.stream.proofs.PromiseOfStep.{in-room}
 use Rattle.stream.proofs.FamilyFacts.{found, Facts}
 use Rattle.stream.proofs.BorneOutByBytes.{ends-later, borne-later}
@@ -95,6 +95,18 @@ found-some : {E : Type 0} (o : Option E) (u : ℕ) (p : Settled E) → found o u
 found-some none u p h = zero-is-one cc
 found-some (some e) u p h = (cc, cc)
 
+-- so bytes in which the rule finds an event at the last are read
+pub found-reads : {S E : Type 0} (next : S → ℕ → Moved S E) {Rest : S → Type 0} (s : S) (w : List ℕ) (e : E)
+    → found (scan next s w .event) (scan next s w .used) ≡ some (record { event = e; used = length w })
+    → ((e : E) → scan next s w .event ≡ some e → Rest (scan next s w .state)) → Reads next Rest s w e
+found-reads {S} {E} next s w e h rests =
+    let p = found-some (scan next s w .event) (scan next s w .used) _ h in
+    record {
+      state = scan next s w .state;
+      rests = rests e (p .0);
+      call = ap₂ {C = Called S E} (λ (o : Option E) (u : ℕ). record { state = scan next s w .state; event = o; used = u }) (p .0) (p .1);
+    }
+
 -- what a call found, and what the bytes after it come to, is what the rule finds, and goes on to find
 found-on : {E : Type 0} (o : Option E) (at u : ℕ) (more : List (Settled E)) (later : ℕ → List (Settled E))
     → (o ≡ none → more ≡ []) → ((e : E) → o ≡ some e → more ≡ later u) → settledBefore o (at + u) more ≡ andOn at (found o u) later
@@ -144,7 +156,7 @@ module _ (F : Family) (facts : Facts F) where
       ∙ ap (map (λ p. p .event)) (ruled (length bs) bs (omega arith) (F .atStart) (F .fresh) (facts .at-start) g 0)
 
   -- what the calls told is what the machine makes of the bytes they used
-  told-is : (cs : List (Call (F .Result))) (s : F .State) → facts .inRange s ≡ true → Allowed F s cs → (at : ℕ)
+  pub told-is : (cs : List (Call (F .Result))) (s : F .State) → facts .inRange s ≡ true → Allowed F s cs → (at : ℕ)
       → toldFrom F at cs ≡ map asTold (settledIn (facts .next) at s (used F cs))
   told-is [] s r al at = refl
   told-is (c ∷ cs) s r al at =
@@ -198,19 +210,13 @@ module _ (F : Family) (facts : Facts F) where
       (told-borne whole (readings (F .rule) (F .afterEvent) (F .atStart) whole) (all-borne (length whole) (F .atStart) 0 whole g none-yet))
 
   -- a state in which a message may begin to be read
-  abbrev Rest : F .State → Type 0
+  abbrev pub Rest : F .State → Type 0
   Rest s = (known : F .Known) × facts .At known s
 
-  reads-at-rest : (s : F .State) → Rest s → (m : F .Message) → F .Takes m → Reads (facts .next) Rest s (F .wire m) (message m)
+  pub reads-at-rest : (s : F .State) → Rest s → (m : F .Message) → F .Takes m → Reads (facts .next) Rest s (F .wire m) (message m)
   reads-at-rest s rest m t =
-      let next = facts .next in
       let f = facts .follows (rest .0) s (rest .1) (F .wire m) (facts .wire-bytes m t) in
-      let p = found-some (scan next s (F .wire m) .event) (scan next s (F .wire m) .used) _ (sym (f .finds) ∙ facts .reads (rest .0) m t) in
-      record {
-        state = scan next s (F .wire m) .state;
-        rests = (F .afterEvent, f .goes-on (message m) (p .0));
-        call = ap₂ (λ (o : Option (Event (F .Message))) (u : ℕ). record { state = scan next s (F .wire m) .state; event = o; used = u }) (p .0) (p .1);
-      }
+      found-reads (facts .next) s (F .wire m) (message m) (sym (f .finds) ∙ facts .reads (rest .0) m t) (λ e p. (F .afterEvent, f .goes-on e p))
 
   fresh-rests : Rest (F .fresh)
   fresh-rests = (F .atStart, facts .at-start)
@@ -230,6 +236,11 @@ module _ (F : Family) (facts : Facts F) where
   -- messages written one after another come to those messages, in order, and to nothing else; and they are bytes
   pub events-written : (ms : List (F .Message)) → Each (F .Takes) ms → events (facts .next) (F .fresh) (written (F .wire) ms) ≡ map message ms
   events-written = all-given (facts .next) (F .wire) message (F .Takes) Rest reads-at-rest (F .fresh) fresh-rests
+
+  -- the first n bytes of messages, from any state in which one may begin to be read: each message at its last byte, and nothing else
+  pub settled-written : (known : F .Known) (s : F .State) → facts .At known s → (ms : List (F .Message)) → Each (F .Takes) ms → (n at : ℕ)
+      → settledIn (facts .next) at s (take n (written (F .wire) ms)) ≡ gotAt (F .wire) message at (take (ended (F .wire) n ms) ms)
+  settled-written known s a = given-at (facts .next) (F .wire) message (F .Takes) Rest reads-at-rest s (known, a)
 
   pub written-bytes : (ms : List (F .Message)) → Each (F .Takes) ms → T (areBytes (written (F .wire) ms))
   written-bytes [] g = tt

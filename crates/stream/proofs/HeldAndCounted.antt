@@ -1,11 +1,13 @@
 -- What a reader has of bytes that may be more than it has room for: the first of them, and how many they are, up to a number that stands for itself
 -- or more.
 -- Assumes nothing.
-use Prim.Native.Nat.{ℕ, min, _+_, _≤_, _<_}
-use mathlib.Core.Path.{_≡_, sym, ap, _∙_}
+use Prim.Native.Nat.{ℕ, min, _+_, _-_, _≤_, _<_}
+use mathlib.Core.Path.{_≡_, sym, ap, ap₂, _∙_}
 use mathlib.Core.List.{List, [], _∷_, _++_}
-use lib.ListN.{length, take, set, length-append, length-set}
-use lib.Seq.{take-all, take-nil, take-append-le, take-suc-set}
+use lib.ListN.{length, take, set, replicate, length-append, length-replicate, length-set}
+use lib.Seq.{length-take-le, take-all, take-nil, take-append-le, take-suc-set}
+use native.Mathlib.Nat.{lt-of-not-le}
+use native.Mathlib.Decide.{decLe}
 use native.Mathlib.Numerals.{add-one}
 use native.Mathlib.Omega.{arith}
 
@@ -59,3 +61,19 @@ module _ (room most : ℕ) (above : room < most) where
 
   pub holds-too-many : (count : ℕ) (held came : List ℕ) → room < length came → Holds room most count held came → room < count
   holds-too-many count held came lt h = omega (arith, h .counted)
+
+  -- whatever is held and counted, in a forged state too, there are bytes that come to it
+  pub holds-some : (count : ℕ) (held : List ℕ) → length held ≡ room → count ≤ most → (came : List ℕ) × Holds room most count held came
+  holds-some count held w le =
+      elim (decLe count room) [
+        | yes y ↦ (
+            let n : length (take count held) ≡ count = length-take-le count held (omega arith) in
+            let now : min count room ≡ count = omega arith in
+            (take count held, record { wide = w; counted = omega arith; same = ap (λ (i : ℕ). take i held) now ∙ sym (take-all room (take count held) (omega arith)) }))
+        | no y ↦ (
+            let more : List ℕ = replicate (count - room) 0 in
+            let over : room < count = lt-of-not-le y in
+            let n : length (held ++ more) ≡ room + (count - room) = length-append held more ∙ ap₂ _+_ w (length-replicate {A = ℕ} (count - room) 0) in
+            let now : min count room ≡ room = omega arith in
+            (held ++ more, record { wide = w; counted = omega arith; same = ap (λ (i : ℕ). take i held) now ∙ sym (take-append-le room held more (omega arith)) }))
+      ]

@@ -14,3 +14,4 @@ pub mod BorneOutByBytes
 pub mod LostAreLast
 pub mod ResultsExist
 pub mod Demands
+pub mod AfterStorm

@@ -2,19 +2,20 @@
 -- that reads each message from a state of rest to a state of rest.
 -- Assumes nothing.
 use Prim.Native.Nat.{ℕ, zero, suc, _+_, _-_, _≤_, _<_}
-use mathlib.Core.Path.{_≡_, refl, ap}
+use mathlib.Core.Path.{_≡_, refl, sym, ap, _∙_}
 use mathlib.Core.Logic.{_↔_}
 use mathlib.Core.Bool.{Bool, true, false, cond}
 use mathlib.Core.Option.{Option, none, some}
 use mathlib.Core.List.{List, [], _∷_, _++_, map, nil≢cons, cons≢nil, head-eq-of-cons-eq, tail-eq-of-cons-eq}
 use lib.ListN.{length, take, length-append}
-use lib.Seq.{take-nil, drop-length, take-append-le, take-append-add}
+use lib.Seq.{take-nil, take-length, drop-length, take-append-le, take-append-add}
 use lib.Dec.{leb}
 use borrow.Author.Tests.{leb-true, leb-false}
 use native.Mathlib.Omega.{arith}
 use Rattle.stream.specs.Pieces.{Moved, Called, before, settle, scan}
+use Rattle.stream.specs.Rule.{Settled}
 use Rattle.stream.specs.Written.{written, ended, Each}
-use Rattle.stream.proofs.CallsComeTo.{after, events, events-append, scan-after, scan-events, Quiet}
+use Rattle.stream.proofs.CallsComeTo.{settledBefore, after, events, settledIn, events-append, settledIn-events, settledIn-none, scan-after, scan-events, scan-settledIn, Quiet}
 
 -- ---- what `ended` counts: message i is counted exactly if the bytes up to and with its last are at most n
 
@@ -74,7 +75,40 @@ pub record Reads {S E : Type 0} (next : S → ℕ → Moved S E) (Rest : S → T
   pub rests : Rest state
   pub call : scan next s w ≡ record { state = state; event = some e; used = length w }
 
+-- ---- the bytes of one message, and any bytes after them
+
+module _ {S E : Type 0} {next : S → ℕ → Moved S E} {Rest : S → Type 0} {s : S} {w : List ℕ} {e : E} (k : Reads next Rest s w e) (at : ℕ) where
+  read-then : (rest : List ℕ) → settledIn next at s (w ++ rest) ≡ record { event = e; used = at + length w } ∷ settledIn next (at + length w) (k .state) rest
+  read-then rest =
+      let all : take (scan next s w .used) w ≡ w = ap (λ (c : Called S E). take (c .used) w) (k .call) ∙ take-length w in
+      ap (λ (l : List ℕ). settledIn next at s (l ++ rest)) (sym all)
+      ∙ scan-settledIn next s w rest at
+      ∙ ap (λ (c : Called S E). settledBefore (c .event) (at + c .used) (settledIn next (at + c .used) (c .state) rest)) (k .call)
+
+  -- the first n of them: at least all of the message's,
+  pub read-whole : (rest : List ℕ) (n : ℕ) → length w ≤ n
+      → settledIn next at s (take n (w ++ rest)) ≡ record { event = e; used = at + length w } ∷ settledIn next (at + length w) (k .state) (take (n - length w) rest)
+  read-whole rest n h =
+      let split : n ≡ length w + (n - length w) = omega arith in
+      ap (settledIn next at s) (ap (λ (i : ℕ). take i (w ++ rest)) split ∙ take-append-add w rest (n - length w)) ∙ read-then (take (n - length w) rest)
+
+  -- or fewer
+  pub read-cut : (rest : List ℕ) (n : ℕ) → n < length w → settledIn next at s (take n (w ++ rest)) ≡ []
+  read-cut rest n h =
+      let h′ : n ≤ length w = omega arith in
+      rw take-append-le (settledIn-none next at s (take n w) (scan-quiet next s w n (ap (λ (c : Called S E). c .used) (k .call)) h))
+
 -- ---- many messages
+
+module _ {E M : Type 0} (wire : M → List ℕ) (got : M → E) where
+  -- messages one after another, each got at its last byte, where `at` bytes came before
+  abbrev pub gotAt : ℕ → List M → List (Settled E)
+  gotAt at [] = []
+  gotAt at (m ∷ ms) = let last = at + length (wire m) in record { event = got m; used = last } ∷ gotAt last ms
+
+  got-events : (at : ℕ) (ms : List M) → map (λ p. p .event) (gotAt at ms) ≡ map got ms
+  got-events at [] = refl
+  got-events at (m ∷ ms) = ap (λ (es : List E). got m ∷ es) (got-events (at + length (wire m)) ms)
 
 module _ {S E M : Type 0} (next : S → ℕ → Moved S E) (wire : M → List ℕ) (got : M → E) (Takes : M → Type 0) (Rest : S → Type 0)
     (reads : (s : S) → Rest s → (m : M) → Takes m → Reads next Rest s (wire m) (got m)) where
@@ -85,24 +119,26 @@ module _ {S E M : Type 0} (next : S → ℕ → Moved S E) (wire : M → List �
       let k : Reads next Rest s (wire m) (got m) = reads s r m (g .0) in
       cc (events-append next s (wire m) (written wire ms), scan-whole next s (k .state) (wire m) (got m) (k .call), scan-lands next s (k .state) (wire m) (got m) (k .call), all-given (k .state) (k .rests) ms (g .1))
 
-  given-step : (s : S) (m : M) (ms : List M) (k : Reads next Rest s (wire m) (got m)) (n : ℕ)
-      → ((j : ℕ) → events next (k .state) (take j (written wire ms)) ≡ map got (take (ended wire j ms) ms))
+  given-step : (s : S) (m : M) (ms : List M) (k : Reads next Rest s (wire m) (got m)) (n at : ℕ)
+      → ((j : ℕ) → settledIn next (at + length (wire m)) (k .state) (take j (written wire ms)) ≡ gotAt wire got (at + length (wire m)) (take (ended wire j ms) ms))
       → (t : Bool) → leb (length (wire m)) n ≡ t
-      → events next s (take n (wire m ++ written wire ms)) ≡ map got (take (cond t (suc (ended wire (n - length (wire m)) ms)) 0) (m ∷ ms))
-  given-step s m ms k n ih true h =
-      let split : n ≡ length (wire m) + (n - length (wire m)) = omega (arith, leb-true (length (wire m)) n h) in
-      cc (ap (λ (j : ℕ). take j (wire m ++ written wire ms)) split, take-append-add (wire m) (written wire ms) (n - length (wire m)), events-append next s (wire m) (take (n - length (wire m)) (written wire ms)), scan-whole next s (k .state) (wire m) (got m) (k .call), scan-lands next s (k .state) (wire m) (got m) (k .call), ih (n - length (wire m)))
-  given-step s m ms k n ih false h =
-      let short : n < length (wire m) = leb-false (length (wire m)) n h in
-      let short′ : n ≤ length (wire m) = omega arith in
-      rw take-append-le (scan-quiet next s (wire m) n (ap (λ (c : Called S E). c .used) (k .call)) short)
+      → settledIn next at s (take n (wire m ++ written wire ms)) ≡ gotAt wire got at (take (cond t (suc (ended wire (n - length (wire m)) ms)) 0) (m ∷ ms))
+  given-step s m ms k n at ih true h =
+      read-whole k at (written wire ms) n (leb-true (length (wire m)) n h)
+      ∙ ap {B = List (Settled E)} (λ ps. record { event = got m; used = at + length (wire m) } ∷ ps) (ih (n - length (wire m)))
+  given-step s m ms k n at ih false h = read-cut k at (written wire ms) n (leb-false (length (wire m)) n h)
 
-  -- the first n bytes: the messages whose last byte is among them, in order, once each, and nothing else
-  pub given : (s : S) → Rest s → (ms : List M) → Each Takes ms → (n : ℕ) → events next s (take n (written wire ms)) ≡ map got (take (ended wire n ms) ms)
-  given s r [] g n = rw take-nil
-  given s r (m ∷ ms) g n =
+  -- the first n bytes: the messages whose last byte is among them, each at that byte, in order, once each, and nothing else
+  pub given-at : (s : S) → Rest s → (ms : List M) → Each Takes ms → (n at : ℕ) → settledIn next at s (take n (written wire ms)) ≡ gotAt wire got at (take (ended wire n ms) ms)
+  given-at s r [] g n at = rw take-nil
+  given-at s r (m ∷ ms) g n at =
       let k : Reads next Rest s (wire m) (got m) = reads s r m (g .0) in
-      given-step s m ms k n (given (k .state) (k .rests) ms (g .1)) (leb (length (wire m)) n) refl
+      given-step s m ms k n at (λ j. given-at (k .state) (k .rests) ms (g .1) j (at + length (wire m))) (leb (length (wire m)) n) refl
+
+  -- and so without the places
+  pub given : (s : S) → Rest s → (ms : List M) → Each Takes ms → (n : ℕ) → events next s (take n (written wire ms)) ≡ map got (take (ended wire n ms) ms)
+  given s r ms g n =
+      sym (settledIn-events next 0 s (take n (written wire ms))) ∙ ap (map (λ p. p .event)) (given-at s r ms g n 0) ∙ got-events wire got 0 (take (ended wire n ms) ms)
 
   map-inj : ((a b : M) → got a ≡ got b → a ≡ b) → (xs ys : List M) → map got xs ≡ map got ys → xs ≡ ys
   map-inj inj [] [] e = refl

@@ -5,4 +5,5 @@ pub mod Written
 pub mod Rule
 pub mod Family
 pub mod Demands
+pub mod Storm
 pub mod Delivery
