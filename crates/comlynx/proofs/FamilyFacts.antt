@@ -23,7 +23,7 @@ use Rattle.comlynx.proofs.WrittenIsRead.{reads, wire-bytes}
 pub joins : (m : Message) (rest : List ℕ) → join (header m) (m .payload ++ rest) ≡ m
 joins m rest = ap {B = Message} (λ (l : List ℕ). record { source = m .source; destination = m .destination; kind = m .kind; payload = l }) (take-append-seam (m .payload) rest)
 
-pub facts : Facts comlynx
+unfoldable pub facts : Facts comlynx
 unfolding Machine.inRange
 facts = record {
   next = next;

@@ -12,4 +12,5 @@ pub mod WriterWritesFrame
 pub mod ResultsExist
 pub mod FamilyFacts
 pub mod Demands
+pub mod AfterStorm
 pub mod One

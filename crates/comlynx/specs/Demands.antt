@@ -13,10 +13,11 @@ use Rattle.stream.specs.Written.{Each}
 use Rattle.stream.specs.Rule.{Settled, readings}
 use Rattle.stream.specs.Family.{Family}
 use Rattle.stream.specs.Demands.{Demands}
+use Rattle.stream.specs.Storm as Storm
 use Rattle.comlynx.specs.Wire.{Message, Takes, payloadMax, body, flag, escape, wire}
 use Rattle.comlynx.specs.Rules.{judge, rule}
 use Rattle.comlynx.specs.Machine.{fresh}
-use Rattle.comlynx.specs.Reader.{join, shown, IsStep}
+use Rattle.comlynx.specs.Reader.{join, shown, IsStep, whole}
 use Rattle.comlynx.specs.Writer.{IsWritten}
 use Rattle.comlynx.specs.declared.reader.Reader.{Reader}
 use Rattle.comlynx.specs.declared.reader.Step.{Step}
@@ -73,6 +74,11 @@ ShownOnce =
 -- HOW MUCH IS LOST: with each damage the bytes between the two flags, as they were sent; 65,535 stands for that or more
 abbrev pub Lost : Type 0
 Lost = (w : List ℕ) (n lost : ℕ) → judge w ≡ damage n lost → lost ≡ min (length w) 65535
+
+-- AFTER A STORM, from any state in range that has all its held bytes, forged ones too: the messages that follow are told exactly, following at most
+-- one more answer, given at the first one's opening flag
+abbrev pub AfterStorm : Type 0
+AfterStorm = (s : Reader) → whole s ≡ true → Storm.AfterStorm comlynx s × Storm.HandedAfterStorm comlynx s
 
 -- how many bytes stuffing adds
 abbrev pub special : List ℕ → ℕ
