@@ -10,6 +10,7 @@ use Rattle.stream.specs.Event.{damage}
 use Rattle.stream.specs.Call.{seenBy}
 use Rattle.stream.specs.Family.{Family}
 use Rattle.stream.specs.Demands.{Demands, EndsWith}
+use Rattle.stream.specs.Storm.{AfterStorm, NeverRead}
 use Rattle.eversolar.specs.Wire.{Message, Takes, wire}
 use Rattle.eversolar.specs.Rules.{rule}
 use Rattle.eversolar.specs.Machine.{fresh}
@@ -54,3 +55,26 @@ abbrev pub Lost : Type 0
 Lost =
     (bs : List ℕ) (n lost p : ℕ) → rule tt bs ≡ some (record { event = damage n lost; used = p })
     → (frame : List ℕ) × LostWith n lost frame × EndsWith frame (take p bs)
+
+-- ---- after a storm (document 02, Req 13)
+
+-- the front of a frame that nobody finished, with 7 for the length of its data
+abbrev pub unfinished : List ℕ
+unfinished = 0xAA ∷ 0x55 ∷ 0x00 ∷ 0x00 ∷ 0x00 ∷ 0x00 ∷ 0x00 ∷ 0x00 ∷ 0x07 ∷ []
+
+-- a message whose data look like such a front
+abbrev pub unlucky : Message
+unlucky = record {
+  sourceFirst = 0x01;
+  sourceSecond = 0x00;
+  destinationFirst = 0x00;
+  destinationSecond = 0x11;
+  control = 0x11;
+  function = 0x03;
+  payload = 0xAA ∷ 0x55 ∷ 0x00 ∷ 0x00 ∷ 0x00 ∷ 0x00 ∷ 0x00 ∷ 0x00 ∷ 0x09 ∷ [];
+}
+
+-- WHAT HOLDS OF COMLYNX DOES NOT HOLD HERE: behind that front this message is never read, however often it is written
+pub record NotAfterStorm : Type 0 where
+  pub never-read : NeverRead eversolar unfinished unlucky
+  pub fails : AfterStorm eversolar fresh → ⊥

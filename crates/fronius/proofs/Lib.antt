@@ -9,4 +9,5 @@ pub mod LostAreLast
 pub mod ResultsExist
 pub mod FamilyFacts
 pub mod Demands
+pub mod NotAfterStorm
 pub mod One

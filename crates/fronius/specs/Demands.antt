@@ -11,6 +11,7 @@ use Rattle.stream.specs.Event.{damage}
 use Rattle.stream.specs.Call.{seenBy}
 use Rattle.stream.specs.Family.{Family}
 use Rattle.stream.specs.Demands.{Demands, EndsWith}
+use Rattle.stream.specs.Storm.{AfterStorm, NeverRead}
 use Rattle.fronius.specs.Wire.{Message, Takes, wire}
 use Rattle.fronius.specs.Rules.{rule}
 use Rattle.fronius.specs.Machine.{fresh}
@@ -56,3 +57,18 @@ abbrev pub Lost : Type 0
 Lost =
     (bs : List ℕ) (n lost p : ℕ) → rule tt bs ≡ some (record { event = damage n lost; used = p })
     → (frame : List ℕ) × LostWith n lost frame × EndsWith frame (take p bs)
+
+-- ---- after a storm (document 02, Req 13)
+
+-- the front of a frame that nobody finished, with 3 for the length of its data
+abbrev pub unfinished : List ℕ
+unfinished = 0x80 ∷ 0x80 ∷ 0x80 ∷ 0x03 ∷ []
+
+-- a message whose data look like such a front
+abbrev pub unlucky : Message
+unlucky = record { device = 0x01; number = 0x01; command = 0x11; payload = 0x80 ∷ 0x80 ∷ 0x80 ∷ 0x04 ∷ [] }
+
+-- WHAT HOLDS OF COMLYNX DOES NOT HOLD HERE: behind that front this message is never read, however often it is written
+pub record NotAfterStorm : Type 0 where
+  pub never-read : NeverRead fronius unfinished unlucky
+  pub fails : AfterStorm fronius fresh → ⊥
