@@ -10,7 +10,7 @@ use borrow.Author.Tests.{eqb-true, leb-true, le-leb, lt-leb, ltb-true, ltb-false
 use native.Mathlib.Omega.{arith}
 use Rattle.numbers.proofs.TestLaws.{both, either}
 use Rattle.stream.proofs.BytesOfParts.{bytes-cons}
-use Rattle.drives.specs.Wire.{enq, ack, nak, opens, isHex, allHex, isLetter, hexDigit}
+use Rattle.drives.specs.Wire.{enq, ack, nak, opens, eot, isHex, allHex, isLetter, hexDigit}
 use Rattle.drives.specs.Demands.{NoEot}
 
 pub hex-range : (c : ℕ) → isHex c ≡ true → (0x30 ≤ c) × (c ≤ 0x46)
@@ -28,11 +28,29 @@ letter-range c e =
     (λ s. either (eqb c 0x58) (eqb c 0x59) s (λ p. omega (arith, eqb-true c 0x58 p)) (λ p. omega (arith, eqb-true c 0x59 p))))
 
 -- an opening byte is not 0, which is the stage in which one is looked for
-pub opens-range : (b : ℕ) → opens b ≡ true → (0 < b) × (b < 256)
+pub opens-range : (b : ℕ) → opens b ≡ true → (enq ≤ b) × (b ≤ nak)
 unfolding opens
 opens-range b e =
     either (eqb b enq) _ e (λ p. omega (arith, eqb-true b enq p))
     (λ r. either (eqb b ack) (eqb b nak) r (λ p. omega (arith, eqb-true b ack p)) (λ p. omega (arith, eqb-true b nak p)))
+
+-- nor EOT, and it is in no set
+pub opens-not-eot : (b : ℕ) → opens b ≡ true → b ≡ eot → ⊥
+opens-not-eot b e z = omega (arith, opens-range b e)
+
+pub opens-not-hex : (b : ℕ) → opens b ≡ true → isHex b ≡ false
+opens-not-hex b e = go (isHex b) refl
+  where
+    go : (t : Bool) → isHex b ≡ t → t ≡ false
+    go true h = absurd (omega (arith, hex-range b h, opens-range b e))
+    go false h = refl
+
+pub opens-not-letter : (b : ℕ) → opens b ≡ true → isLetter b ≡ false
+opens-not-letter b e = go (isLetter b) refl
+  where
+    go : (t : Bool) → isLetter b ≡ t → t ≡ false
+    go true h = absurd (omega (arith, letter-range b h, opens-range b e))
+    go false h = refl
 
 -- the digits of a sum are in the set
 pub digit-hex : (n : ℕ) → n < 16 → isHex (hexDigit n) ≡ true

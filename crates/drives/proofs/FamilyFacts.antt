@@ -34,7 +34,7 @@ refused-none : {A : Type 0} (w : Written) (n : ℕ) → told w ≡ refused 1 Wro
 refused-none (Done k) n e l = zero-is-one cc
 refused-none (Refused why) n e l = zero-is-one cc
 
-writes : (m : Message) (lent later : List ℕ) (w : Written) (n : ℕ) → WritesMessage m lent w later → lengthOf w ≡ some n
+pub writes : (m : Message) (lent later : List ℕ) (w : Written) (n : ℕ) → WritesMessage m lent w later → lengthOf w ≡ some n
     → (take n later ≡ wire m) × (n ≡ length (wire m))
 unfolding framing writing
 writes m lent later w n x e = go (tooLong m) (inSets m) (x .0) (x .1)
@@ -45,7 +45,7 @@ writes m lent later w n x e = go (tooLong m) (inSets m) (x .0) (x .1)
     go false true p q = writes-frame false (wire m) lent later w n (p, q) e
     go false false p q = refused-none w n p e
 
-writes-none : (m : Message) (lent later : List ℕ) (w : Written) → WritesMessage m lent w later → lengthOf w ≡ none → later ≡ lent
+pub writes-none : (m : Message) (lent later : List ℕ) (w : Written) → WritesMessage m lent w later → lengthOf w ≡ none → later ≡ lent
 unfolding framing writing
 writes-none m lent later w x e = go (tooLong m) (inSets m) (x .0) (x .1)
   where
@@ -60,7 +60,7 @@ joins m rest =
     ap {B = Message} (λ (l : List ℕ). record { opening = m .opening; stationFirst = m .stationFirst; stationSecond = m .stationSecond; letter = m .letter; payload = l })
     (take-append-seam (m .payload) rest)
 
-pub facts : Facts drives
+unfoldable pub facts : Facts drives
 unfolding Machine.inRange
 facts = record {
   next = next;

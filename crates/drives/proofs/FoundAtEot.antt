@@ -15,12 +15,12 @@ use Rattle.drives.specs.Wire.{Message, eot, opens}
 use Rattle.drives.specs.Rules.{judge, within, sought}
 use Rattle.drives.specs.Demands.{NoOpening, NoEot, FoundAtEot}
 
-abbrev found : Event Message → ℕ → Option (Settled (Event Message))
+abbrev pub found : Event Message → ℕ → Option (Settled (Event Message))
 found e n = some (record { event = e; used = n })
 
 -- ---- in a frame
 
-within-characters : (w : List ℕ) → NoEot w → (at o : ℕ) (came rest : List ℕ) → within at o came (w ++ (eot ∷ rest)) ≡ found (judge o (came ++ w)) (at + length w + 1)
+pub within-characters : (w : List ℕ) → NoEot w → (at o : ℕ) (came rest : List ℕ) → within at o came (w ++ (eot ∷ rest)) ≡ found (judge o (came ++ w)) (at + length w + 1)
 unfolding within
 within-characters [] k at o came rest =
     let e : at + 1 ≡ at + 0 + 1 = omega arith in

@@ -13,5 +13,6 @@ pub mod WrittenIsRead
 pub mod FamilyFacts
 pub mod LostAreLast
 pub mod Demands
+pub mod AfterStorm
 pub mod Cases
 pub mod One

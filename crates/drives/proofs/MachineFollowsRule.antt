@@ -27,14 +27,14 @@ pub record Rests (s : Reader) : Type 0 where
   pub full : length held ≡ heldMax
   pub is : s ≡ looking held
 
-rests : (h : List ℕ) → length h ≡ heldMax → Rests (looking h)
+pub rests : (h : List ℕ) → length h ≡ heldMax → Rests (looking h)
 rests h f = record { held = h; full = f; is = refl }
 
 -- what is counted and held, where `came` has come since the opening byte
-abbrev Tracks : ℕ → List ℕ → List ℕ → Type 0
+abbrev pub Tracks : ℕ → List ℕ → List ℕ → Type 0
 Tracks = Holds heldMax countMax
 
-room : heldMax < countMax
+pub room : heldMax < countMax
 room = omega arith
 
 -- ---- at EOT: what was held is the whole frame, or the frame is too long, and is judged by its length alone
@@ -59,7 +59,7 @@ closed-judged o c h came t =
 
 -- ---- a frame behind its opening byte, and what stands before that
 
-framed : (o : ℕ) → (o ≡ 0 → ⊥) → (bs : List ℕ) (c : ℕ) (h came : List ℕ) → Tracks c h came → (at : ℕ) → Finds next Rests at (within at o came bs) (inside o c h) bs
+pub framed : (o : ℕ) → (o ≡ 0 → ⊥) → (bs : List ℕ) (c : ℕ) (h came : List ℕ) → Tracks c h came → (at : ℕ) → Finds next Rests at (within at o came bs) (inside o c h) bs
 unfolding within
 framed o opened [] c h came t at = finds-end next Rests at (inside o c h)
 framed o opened (b ∷ bs) c h came t at =

@@ -62,7 +62,7 @@ module _ (m : Message) (t : Takes m) where
   sets : InSets m
   sets = in-sets m (t .proper)
 
-  no-eot : NoEot (between m)
+  pub no-eot : NoEot (between m)
   no-eot = (
     λ e. omega (arith, hex-range (m .stationFirst) (sets .first)),
     (
@@ -124,5 +124,5 @@ module _ (m : Message) (t : Takes m) where
       bytes-cons (m .stationFirst) l₂ (omega (arith, hex-range (m .stationFirst) (sets .first)))
       (bytes-cons (m .stationSecond) l₁ (omega (arith, hex-range (m .stationSecond) (sets .second)))
       (bytes-cons (m .letter) rest (omega (arith, letter-range (m .letter) (sets .letter))) (hex-bytes rest (sets .rest)))) in
-      bytes-cons (m .opening) (between m ++ (eot ∷ [])) (opens-range (m .opening) (t .opening) .1)
+      bytes-cons (m .opening) (between m ++ (eot ∷ [])) (omega (arith, opens-range (m .opening) (t .opening)))
       (bytes-append (between m) (eot ∷ []) characters (bytes-cons eot [] (omega arith) tt))

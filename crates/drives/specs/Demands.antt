@@ -11,10 +11,12 @@ use Rattle.stream.specs.Event.{damage}
 use Rattle.stream.specs.Call.{seenBy}
 use Rattle.stream.specs.Family.{Family}
 use Rattle.stream.specs.Demands.{Demands, EndsWith}
+use Rattle.stream.specs.Storm.{AfterStorm, Swallowed}
+use Rattle.stream.specs.Storm as Storm
 use Rattle.drives.specs.Wire.{Message, Takes, opens, wire}
 use Rattle.drives.specs.Rules.{judge, rule}
 use Rattle.drives.specs.Machine.{fresh}
-use Rattle.drives.specs.Reader.{join, shown, IsStep}
+use Rattle.drives.specs.Reader.{join, shown, IsStep, whole}
 use Rattle.drives.specs.Writer.{IsWritten}
 use Rattle.drives.specs.declared.reader.Reader.{Reader}
 use Rattle.drives.specs.declared.reader.Step.{Step}
@@ -75,3 +77,23 @@ abbrev pub Lost : Type 0
 Lost =
     (bs : List ℕ) (n lost p : ℕ) → rule tt bs ≡ some (record { event = damage n lost; used = p })
     → (frame : List ℕ) × LostWith lost frame × EndsWith frame (take p bs)
+
+-- ---- after a storm (document 02, Req 13)
+
+-- the example of page 003: station 01 is asked for one value from address 3000
+abbrev pub request : Message
+request = record { opening = 0x05; stationFirst = 0x30; stationSecond = 0x31; letter = 0x52; payload = 0x33 ∷ 0x30 ∷ 0x30 ∷ 0x30 ∷ 0x31 ∷ [] }
+
+-- an opening byte, alone
+abbrev pub stray : List ℕ
+stray = 0x05 ∷ []
+
+-- WHAT HOLDS OF COMLYNX DOES NOT HOLD HERE: behind it this message is lost
+pub record NotAfterStorm : Type 0 where
+  pub takes : Takes request
+  pub swallowed : Swallowed drives stray request 1
+  pub fails : AfterStorm drives fresh → ⊥
+
+-- BUT NO MORE THAN THE FIRST MESSAGE is lost, from any state in range that has all its held bytes, forged ones too
+abbrev pub AllButFirst : Type 0
+AllButFirst = (s : Reader) → whole s ≡ true → Storm.AllButFirst drives s
