@@ -90,7 +90,7 @@ pub struct Shape {
     pub in_place: u8,
     pub held: usize,
     pub state: usize,
-    state_in_result: usize,
+    pub state_in_result: usize,
     chain: &'static str,
     forged: &'static str,
     grid: &'static str,
@@ -230,7 +230,8 @@ pub fn forged_call(family: Family, random: &mut Random) -> Call {
     reader_call(shape, &state, &piece, &lent_to_reader(random)).from(shape.forged)
 }
 
-fn state_of_numbers(shape: Shape, random: &mut Random) -> (Vec<u8>, Vec<u8>) {
+/// A state made of numbers near the limits, and a piece for it.
+pub fn state_of_numbers(shape: Shape, random: &mut Random) -> (Vec<u8>, Vec<u8>) {
     let family = shape.family;
     let held = family.content(random, shape.held);
     let stage = match family {

@@ -6,9 +6,11 @@ mod fields;
 mod in_place_calls;
 mod known;
 mod known_drives;
+mod known_storms;
 mod listing_calls;
 mod programs;
 mod random;
+mod storms;
 mod streams;
 mod two_ways;
 
@@ -36,15 +38,32 @@ const PROBES: [(&str, &str); 3] = [
     ("PROBE_CALLS", "bin/test_probe_calls"),
 ];
 
+/// The first of them, which makes the calls of the readers of one family.
+const READERS: usize = 0;
+
 /// How much of what is run.
 struct Amount {
     random_sessions: usize,
+    storm_sessions: usize,
     listings: usize,
+    storm_listings: usize,
     full_listings: usize,
 }
 
-const DEFAULT: Amount = Amount { random_sessions: 50, listings: 1000, full_listings: 6 };
-const LONG: Amount = Amount { random_sessions: 1000, listings: 12_000, full_listings: 24 };
+const DEFAULT: Amount = Amount {
+    random_sessions: 50,
+    storm_sessions: 20,
+    listings: 1000,
+    storm_listings: 100,
+    full_listings: 6,
+};
+const LONG: Amount = Amount {
+    random_sessions: 1000,
+    storm_sessions: 400,
+    listings: 12_000,
+    storm_listings: 2000,
+    full_listings: 24,
+};
 const CALLS_IN_A_SESSION: usize = 600;
 const LISTINGS_IN_A_JOB: usize = 20;
 const STREAMS_IN_TWO_WAYS: u64 = 300;
@@ -57,7 +76,9 @@ enum Job {
     Sweep(usize),
     RandomSession(usize),
     BrokenSession(usize),
+    StormSession(usize),
     Listings(usize),
+    StormListings(usize),
     FullListing(usize),
 }
 
@@ -145,16 +166,26 @@ fn jobs(run: &Run, sweeps: usize) -> Vec<Job> {
     let mut jobs = Vec::new();
     jobs.extend((0..4).map(Job::BrokenSession));
     jobs.extend((0..sweeps).map(Job::Sweep));
-    let listing_jobs = run.amount.listings / LISTINGS_IN_A_JOB;
-    for order in 0..listing_jobs.max(run.amount.random_sessions).max(run.amount.full_listings) {
+    let amount = &run.amount;
+    let listing_jobs = amount.listings / LISTINGS_IN_A_JOB;
+    let storm_listing_jobs = amount.storm_listings / LISTINGS_IN_A_JOB;
+    let sessions = amount.random_sessions.max(amount.storm_sessions);
+    let listings = listing_jobs.max(storm_listing_jobs).max(amount.full_listings);
+    for order in 0..sessions.max(listings) {
         if order < listing_jobs {
             jobs.push(Job::Listings(order));
         }
-        if order < run.amount.random_sessions {
+        if order < amount.random_sessions {
             jobs.push(Job::RandomSession(order));
             jobs.push(Job::BrokenSession(order + 4));
         }
-        if order < run.amount.full_listings {
+        if order < amount.storm_sessions {
+            jobs.push(Job::StormSession(order));
+        }
+        if order < storm_listing_jobs {
+            jobs.push(Job::StormListings(order));
+        }
+        if order < amount.full_listings {
             jobs.push(Job::FullListing(order));
         }
     }
@@ -170,7 +201,10 @@ fn jobs(run: &Run, sweeps: usize) -> Vec<Job> {
 }
 
 fn is_of_listings(job: Job) -> bool {
-    matches!(job, Job::KnownListings | Job::Listings(_) | Job::FullListing(_))
+    matches!(
+        job,
+        Job::KnownListings | Job::Listings(_) | Job::StormListings(_) | Job::FullListing(_)
+    )
 }
 
 /// The jobs in turn, some at once, until one disagrees.
@@ -214,6 +248,7 @@ fn do_job(run: &Run, job: Job, sweeps: &[&[Call]], counts: &Counts) -> Result<()
             calls.push(calls::broken_ending(case % PROBES.len(), &mut random));
             compare_session(run, &format!("broken session {case}"), &calls, counts)
         }
+        Job::StormSession(case) => storm_session(run, case, counts),
         Job::Listings(job) => (0..LISTINGS_IN_A_JOB).try_for_each(|order| {
             let case = job * LISTINGS_IN_A_JOB + order;
             let input = streams::listing_input(&mut Random::of(run.seed, 3, case as u64));
@@ -224,7 +259,10 @@ fn do_job(run: &Run, job: Job, sweeps: &[&[Call]], counts: &Counts) -> Result<()
                 &input,
                 counts,
             )
+            .map(drop)
         }),
+        Job::StormListings(job) => (0..LISTINGS_IN_A_JOB)
+            .try_for_each(|order| storm_listing(run, job * LISTINGS_IN_A_JOB + order, counts)),
         Job::FullListing(case) => {
             let input = full_listing_input(case, &mut Random::of(run.seed, 4, case as u64));
             compare_listing(
@@ -234,6 +272,7 @@ fn do_job(run: &Run, job: Job, sweeps: &[&[Call]], counts: &Counts) -> Result<()
                 &input,
                 counts,
             )
+            .map(drop)
         }
     }
 }
@@ -296,6 +335,25 @@ fn results_of(mut output: &[u8]) -> (Vec<&[u8]>, &[u8]) {
     (results, output)
 }
 
+/// The readers of one family, then all ports. What is asked of a list after a storm is asked of
+/// what the program answered.
+fn storm_session(run: &Run, case: usize, counts: &Counts) -> Result<(), String> {
+    let (mut random, name) = (Random::of(run.seed, 10, case as u64), format!("storm {case}"));
+    let chains = storms::chains(&mut random);
+    let calls: Vec<(usize, &Call)> =
+        chains.iter().flat_map(|chain| &chain.calls).enumerate().collect();
+    let mut results = compare_calls(run, READERS, &name, &calls, counts)?.into_iter();
+    for chain in &chains {
+        let own: Vec<Vec<u8>> = results.by_ref().take(chain.calls.len()).collect();
+        if let Some(wrong) = chain.wrong(&own) {
+            let generator = chain.generator();
+            return Err(format!("case {name}, generator \"{generator}, the list\"\n  {wrong}"));
+        }
+    }
+    let of_all_ports = storms::calls_of_all_ports(&mut random);
+    compare_session(run, &format!("{name}, all ports"), &of_all_ports, counts)
+}
+
 /// Each call is made by the program that its opcode names, and keeps its place in the report.
 fn compare_session(run: &Run, case: &str, calls: &[Call], counts: &Counts) -> Result<(), String> {
     (0..PROBES.len()).try_for_each(|program| {
@@ -304,18 +362,19 @@ fn compare_session(run: &Run, case: &str, calls: &[Call], counts: &Counts) -> Re
         if own.is_empty() {
             return Ok(());
         }
-        compare_calls(run, program, case, &own, counts)
+        compare_calls(run, program, case, &own, counts).map(drop)
     })
 }
 
-/// The calls of one program, in their order.
+/// The calls of one program, in their order: what the program answered, which is what the model
+/// did.
 fn compare_calls(
     run: &Run,
     program: usize,
     case: &str,
     calls: &[(usize, &Call)],
     counts: &Counts,
-) -> Result<(), String> {
+) -> Result<Vec<Vec<u8>>, String> {
     let input: Vec<u8> = calls.iter().flat_map(|(_, call)| call.bytes.iter().copied()).collect();
     let label = |at: usize| match calls.get(at) {
         Some((place, call)) => {
@@ -343,7 +402,7 @@ fn compare_calls(
     if !rest.is_empty() {
         return Err(format!("{}: an unfinished result: {}", label(given.len()), fields::hex(rest)));
     }
-    Ok(())
+    Ok(given.into_iter().map(<[u8]>::to_vec).collect())
 }
 
 /// Which call the model stopped at.
@@ -401,13 +460,14 @@ fn known_calls(run: &Run, counts: &Counts) -> Result<(), String> {
 
 // ---- listings ----
 
+/// What the program listed, which is what the model did.
 fn compare_listing(
     run: &Run,
     case: &str,
     generator: &str,
     input: &[u8],
     counts: &Counts,
-) -> Result<(), String> {
+) -> Result<Vec<u8>, String> {
     let label = format!("case {case}, generator \"{generator}\"");
     let expected =
         model_output(run.model.listing, input).map_err(|wrong| format!("{label}: {wrong}"))?;
@@ -416,7 +476,19 @@ fn compare_listing(
         return Err(format!("{label}\n{}", both_listings(input, &expected, &given)));
     }
     counts.listings.fetch_add(1, Ordering::Relaxed);
-    Ok(())
+    Ok(given)
+}
+
+/// A storm and then a list on each port. What is asked of a list after a storm is asked of what the
+/// program listed.
+fn storm_listing(run: &Run, case: usize, counts: &Counts) -> Result<(), String> {
+    let storms = storms::on_all_ports(&mut Random::of(run.seed, 11, case as u64));
+    let (name, generator) = (format!("storm listing {case}"), "listing, a storm on each port");
+    let listed = compare_listing(run, &name, generator, &storms.input(), counts)?;
+    match storms.wrong(&listed) {
+        None => Ok(()),
+        Some(wrong) => Err(format!("case {name}, generator \"{generator}, the list\"\n  {wrong}")),
+    }
 }
 
 const MOST_INPUT_SHOWN: usize = 6000;

@@ -52,7 +52,8 @@ fn on_a_fresh_state(piece: &[u8], random: &mut Random, generator: &'static str) 
     reader_call(of_drives(), &fresh_state(of_drives()), piece, &random.bytes(255)).from(generator)
 }
 
-fn message(random: &mut Random, payload: usize) -> Message {
+/// A message with so many data characters: a reply where it may be one, or a request.
+pub fn drives_message(random: &mut Random, payload: usize) -> Message {
     let opening = match payload > MOST_IN_A_REPLY {
         true => drives::ENQ,
         false => random.pick(&OPENINGS),
@@ -79,7 +80,7 @@ fn frame_matrix(random: &mut Random, calls: &mut Vec<Call>) {
 fn every_byte(random: &mut Random, calls: &mut Vec<Call>) {
     for place in 0..10 {
         for byte in 0..=255 {
-            let mut frame = drives::frame(&message(random, 3));
+            let mut frame = drives::frame(&drives_message(random, 3));
             frame[place] = byte;
             if random.one_in(4) {
                 calls.push(on_a_fresh_state(&frame, random, BYTES));
@@ -115,7 +116,7 @@ fn every_sum(random: &mut Random, calls: &mut Vec<Call>) {
 fn frame_of_sum(random: &mut Random, sum: u8) -> Vec<u8> {
     loop {
         let length = random.between(3, 30);
-        let frame = drives::frame(&message(random, length));
+        let frame = drives::frame(&drives_message(random, length));
         if drives::sum_of(&frame[1..frame.len() - 3]) == sum {
             return frame;
         }
@@ -128,7 +129,7 @@ fn every_stage(random: &mut Random, calls: &mut Vec<Call>) {
         for (count, lent) in [(0, 255), (5, 255), (65_533, 255), (0, 254)] {
             let held = Family::Drives.content(random, of_drives().held);
             let state = state_of(of_drives(), &held, stage, count, 0);
-            let frame = drives::frame(&message(random, 2));
+            let frame = drives::frame(&drives_message(random, 2));
             let lent = random.bytes(lent);
             calls.push(reader_call(of_drives(), &state, &frame, &lent).from(STAGES));
         }
@@ -159,7 +160,7 @@ fn count_sweep(random: &mut Random, calls: &mut Vec<Call>) {
 /// each with the opening byte of the frame and with the others.
 fn held_sweep(random: &mut Random, calls: &mut Vec<Call>) {
     for payload in 0..=drives::MOST_PAYLOAD {
-        let frame = drives::frame(&message(random, payload));
+        let frame = drives::frame(&drives_message(random, payload));
         let characters = &frame[1..frame.len() - 1];
         let mut held = random.digits(of_drives().held);
         held[..characters.len()].copy_from_slice(characters);
@@ -178,7 +179,7 @@ fn held_sweep(random: &mut Random, calls: &mut Vec<Call>) {
 /// Frames cut at every byte, the second part read from what the first left.
 fn cut_sweep(random: &mut Random, calls: &mut Vec<Call>) {
     for payload in [0, 1, MOST_IN_A_REPLY, drives::MOST_PAYLOAD] {
-        let frame = drives::frame(&message(random, payload));
+        let frame = drives::frame(&drives_message(random, payload));
         for cut in 0..=frame.len() {
             let held = Family::Drives.content(random, of_drives().held);
             let mut state = state_of(of_drives(), &held, 0, 0, 0);

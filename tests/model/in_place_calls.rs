@@ -22,7 +22,7 @@ const HELD_LENGTHS: [usize; 31] = [
 ];
 
 /// A reader's call made in place, with so many held bytes lent.
-fn in_place(shape: Shape, call: &Call, length: usize, random: &mut Random) -> Making {
+pub fn in_place(shape: Shape, call: &Call, length: usize, random: &mut Random) -> Making {
     let (state, rest) = call.bytes[1..].split_at(shape.state);
     let (held, numbers) = state.split_at(shape.held);
     let mut held = held.to_vec();

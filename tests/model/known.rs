@@ -1,9 +1,9 @@
 //! The numbers the paper prints: P1 to P12, L1, and published examples of 000, with their
 //! answers written out. Eversolar's words go as document 02, Req 03, has them; the cases N1 to N16
 //! are of its Req 09, the bytes lost with each damage. What is known of drives is a source of its
-//! own.
+//! own, and so is what is known after a storm (Req 13).
 
-use crate::known_drives;
+use crate::{known_drives, known_storms};
 
 #[derive(Clone)]
 pub struct KnownCall {
@@ -371,6 +371,7 @@ pub fn listings() -> Vec<KnownListing> {
     listings.extend(short_listings_of_req_09());
     listings.extend(long_listings_of_req_09());
     listings.extend(known_drives::listings());
+    listings.extend(known_storms::listings());
     listings
 }
 

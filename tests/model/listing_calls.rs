@@ -334,18 +334,44 @@ pub fn port_chain(random: &mut Random, calls: &mut Vec<Call>) {
     for _ in 0..30 {
         let port = random.below(FAMILIES.len());
         let rest = &streams[port][positions[port]..];
-        let mut piece = &rest[..random.between(1, longest_piece).min(rest.len())];
+        let piece = &rest[..random.between(1, longest_piece).min(rest.len())];
         positions[port] += piece.len();
-        loop {
-            let lent = lent_to_reader(random);
-            let call = port_call(&states, port as u8 + 1, piece, &lent).from(PORTS_CHAIN);
-            let (number, used, next) = after_a_port(&call.bytes, lent.len());
-            calls.push(call);
-            states = next;
-            piece = &piece[used..];
-            if number == number::DONE {
-                break;
-            }
+        states = read_piece(states, port as u8 + 1, piece, PORTS_CHAIN, random, calls);
+    }
+}
+
+/// The pieces of packets, in their order, each by its port's reader.
+pub fn read_packets(
+    packets: &[Vec<u8>],
+    generator: &'static str,
+    random: &mut Random,
+    calls: &mut Vec<Call>,
+) {
+    let mut states = fresh_states();
+    for packet in packets {
+        let (port, piece) = (packet[5], &packet[7..]);
+        states = read_piece(states, port, piece, generator, random, calls);
+    }
+}
+
+/// A piece of a port, called on until it is used up; the states that it leaves.
+fn read_piece(
+    mut states: States,
+    port: u8,
+    mut piece: &[u8],
+    generator: &'static str,
+    random: &mut Random,
+    calls: &mut Vec<Call>,
+) -> States {
+    loop {
+        let lent = lent_to_reader(random);
+        let call = port_call(&states, port, piece, &lent).from(generator);
+        let (number, used, next) = after_a_port(&call.bytes, lent.len());
+        calls.push(call);
+        states = next;
+        piece = &piece[used..];
+        if number == number::DONE {
+            return states;
         }
     }
 }
@@ -651,15 +677,26 @@ pub fn random_listing(random: &mut Random) -> Call {
     listing.call(random.one_in(2), &input, &random.bytes(lent)).from(ANY)
 }
 
-/// A whole input, more and more of it at hand, until its listing ends.
+/// The first packets of an input.
 pub fn listing_chain(random: &mut Random, calls: &mut Vec<Call>) {
     let whole = streams::listing_input(random);
     let more = random.pick(&[1, 9, 300, 2000]);
+    list_by_packets(&whole, (24, more), CHAIN, random, calls);
+}
+
+/// A whole input, more and more of it at hand, until its listing ends or so many calls were made.
+pub fn list_by_packets(
+    whole: &[u8],
+    (most_calls, more): (usize, usize),
+    generator: &'static str,
+    random: &mut Random,
+    calls: &mut Vec<Call>,
+) {
     let (mut listing, mut ended) = (Listing::fresh(), false);
     let (mut position, mut at_hand) = (0, 0);
-    for _ in 0..24 {
+    for _ in 0..most_calls {
         let input = &whole[position..at_hand.max(position)];
-        let call = listing.enough_lent(ended, input, random).from(CHAIN);
+        let call = listing.enough_lent(ended, input, random).from(generator);
         let result = probe::answer(&call.bytes).expect("a whole call");
         calls.push(call);
         position += usize::from(result[2]) + 256 * usize::from(result[3]);

@@ -168,7 +168,7 @@ pub fn station(random: &mut Random) -> [u8; 2] {
 
 /// A frame with one byte changed, dropped, doubled, added or exchanged with its neighbour,
 /// or cut.
-fn spoilt_frame(family: Family, random: &mut Random) -> Vec<u8> {
+pub fn spoilt_frame(family: Family, random: &mut Random) -> Vec<u8> {
     let mut frame = frame(family, random);
     let position = position_in(&frame, random);
     match random.below(7) {
@@ -503,7 +503,16 @@ pub fn longest_frames(random: &mut Random) -> Vec<u8> {
 
 /// Packets of the four ports, cut anywhere and interleaved, sometimes with something wrong.
 pub fn listing_input(random: &mut Random) -> Vec<u8> {
-    let mut left = FAMILIES.map(|family| port_stream(family, random));
+    let streams = FAMILIES.map(|family| port_stream(family, random));
+    let mut packets = interleaved(streams, random);
+    if random.one_in(2) {
+        spoil_the_packets(&mut packets, random);
+    }
+    packets.concat()
+}
+
+/// The streams of the four ports in packets, until all are used up.
+pub fn interleaved(mut left: [Vec<u8>; 4], random: &mut Random) -> Vec<Vec<u8>> {
     let longest_cut = random.pick(&[1, 2, 7, 30, 240, 240]);
     let mut packets = Vec::new();
     while left.iter().any(|stream| !stream.is_empty()) {
@@ -512,10 +521,7 @@ pub fn listing_input(random: &mut Random) -> Vec<u8> {
             packets.push(next_packet(port, &mut left[port], longest_cut, random));
         }
     }
-    if random.one_in(2) {
-        spoil_the_packets(&mut packets, random);
-    }
-    packets.concat()
+    packets
 }
 
 /// Mostly its own family; now and then another's bytes, or none.
