@@ -147,6 +147,8 @@ taken = record { opening = refl; proper = refl; fits = omega arith }
 
 pub not-after-storm : NotAfterStorm
 unfolding opens proper isHex isLetter frameMost checksum hexDigit sized agrees judged within sought
-not-after-storm =
-    let lost = Storm.swallowed drives facts stray request 1 tt taken (refl, ((21, 13, refl), tt)) in
-    record { takes = taken; swallowed = lost; fails = Storm.not-after-storm drives facts stray request tt taken lost }
+not-after-storm = record {
+  takes = taken;
+  swallowed = Storm.swallowed drives facts stray request _ tt taken (refl, ((21, 13, refl), tt));
+  fails = Storm.not-after-storm drives facts stray request tt taken (Storm.swallowed drives facts stray request 1 tt taken (refl, ((21, 13, refl), tt)));
+}

@@ -1,5 +1,5 @@
--- Messages written behind a storm, which is any bytes at all (document 02, Req 13): what it is that a family tells all of them, that it tells all but
--- the first, and that it never reads one.
+-- Messages written behind a storm, which is any bytes at all (document 02, Req 13): what it means that a family tells all of them, that it tells all
+-- but the first, and that it never reads one.
 use Prim.Native.Nat.{ℕ, _+_, _≤_}
 use mathlib.Core.Path.{_≡_}
 use mathlib.Core.List.{List, [], _∷_, _++_, flatten}
