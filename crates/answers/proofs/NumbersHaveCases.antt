@@ -15,7 +15,7 @@ use Rattle.answers.specs.Damage as Damage
 use Rattle.answers.specs.Written as Written
 use Rattle.answers.specs.Demands.{times, Refusals, Damages}
 use Rattle.answers.specs.declared.Refusal.{Refusal}
-use Rattle.answers.specs.declared.Refusal.the-variants.{TooLong, NoRoom, WrongMark, WrongVersion, WrongPortOrCount, BytesMissing, RosterFull, ExponentTooHigh, WrongAddressOrExponentTooLow, NotForThisCall, Spoilt, TooManyPackets, WrongCharacter}
+use Rattle.answers.specs.declared.Refusal.the-variants.{TooLong, NoRoom, WrongMark, WrongVersion, WrongPortOrCount, BytesMissing, RosterFull, ExponentTooHigh, WrongAddressOrExponentTooLow, NotForThisCall, Spoilt, TooManyPackets, WrongCharacter, SliceTooLong, PlacePastEnd}
 use Rattle.answers.specs.declared.Damage.{Damage}
 use Rattle.answers.specs.declared.Damage.the-variants.{BrokenPair, WrongBodyLength, WrongStart, WrongSize, WrongSum, WrongLengthByte, WrongCharacter as OutOfSet}
 use Rattle.answers.specs.declared.Written.{Written}
@@ -37,7 +37,7 @@ has-name told other (c ∷ cases) n h = go (eqb n (told c)) refl h (has-name tol
     go false e k rest = rest (omega arith)
 
 abbrev allRefusals : List Refusal
-allRefusals = TooLong ∷ NoRoom ∷ WrongMark ∷ WrongVersion ∷ WrongPortOrCount ∷ BytesMissing ∷ RosterFull ∷ ExponentTooHigh ∷ WrongAddressOrExponentTooLow ∷ NotForThisCall ∷ Spoilt ∷ TooManyPackets ∷ WrongCharacter ∷ []
+allRefusals = TooLong ∷ NoRoom ∷ WrongMark ∷ WrongVersion ∷ WrongPortOrCount ∷ BytesMissing ∷ RosterFull ∷ ExponentTooHigh ∷ WrongAddressOrExponentTooLow ∷ NotForThisCall ∷ Spoilt ∷ TooManyPackets ∷ WrongCharacter ∷ SliceTooLong ∷ PlacePastEnd ∷ []
 
 -- of each refusal: its number is listed once and leads back to it; it is not below 8
 each-refusal : (r : Refusal)
@@ -56,6 +56,8 @@ each-refusal NotForThisCall = (refl, refl, refl)
 each-refusal Spoilt = (refl, refl, refl)
 each-refusal TooManyPackets = (refl, refl, refl)
 each-refusal WrongCharacter = (refl, refl, refl)
+each-refusal SliceTooLong = (refl, refl, refl)
+each-refusal PlacePastEnd = (refl, refl, refl)
 
 pub refusals : Refusals
 refusals = record {

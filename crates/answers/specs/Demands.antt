@@ -22,7 +22,7 @@ pub record Numbers {A : Type 0} (told : A → ℕ) (numbers : List ℕ) : Type 0
   pub number : (n : ℕ) → 0 < times n numbers → told (back n) ≡ n
 
 abbrev pub Refusals : Type 0
-Refusals = Numbers Refusal.number (8 ∷ 9 ∷ 10 ∷ 11 ∷ 12 ∷ 13 ∷ 14 ∷ 15 ∷ 16 ∷ 17 ∷ 18 ∷ 19 ∷ 21 ∷ [])
+Refusals = Numbers Refusal.number (8 ∷ 9 ∷ 10 ∷ 11 ∷ 12 ∷ 13 ∷ 14 ∷ 15 ∷ 16 ∷ 17 ∷ 18 ∷ 19 ∷ 21 ∷ 23 ∷ 24 ∷ [])
 
 abbrev pub Damages : Type 0
 Damages = Numbers Damage.number (2 ∷ 3 ∷ 4 ∷ 5 ∷ 6 ∷ 7 ∷ 21 ∷ [])

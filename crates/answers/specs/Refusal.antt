@@ -1,10 +1,10 @@
--- The refusals, 8 to 19 and 21.
+-- The refusals, 8 to 19, 21, 23 and 24.
 use Prim.Native.Nat.{ℕ}
 use mathlib.Core.Path.{_≡_}
 use lib.ListN.{replicate}
 use Rattle.answers.specs.Answer.{Answer, answer}
 use Rattle.answers.specs.declared.Refusal.{Refusal}
-use Rattle.answers.specs.declared.Refusal.the-variants.{TooLong, NoRoom, WrongMark, WrongVersion, WrongPortOrCount, BytesMissing, RosterFull, ExponentTooHigh, WrongAddressOrExponentTooLow, NotForThisCall, Spoilt, TooManyPackets, WrongCharacter}
+use Rattle.answers.specs.declared.Refusal.the-variants.{TooLong, NoRoom, WrongMark, WrongVersion, WrongPortOrCount, BytesMissing, RosterFull, ExponentTooHigh, WrongAddressOrExponentTooLow, NotForThisCall, Spoilt, TooManyPackets, WrongCharacter, SliceTooLong, PlacePastEnd}
 
 abbrev pub number : Refusal → ℕ
 number TooLong = 8
@@ -20,6 +20,8 @@ number NotForThisCall = 17
 number Spoilt = 18
 number TooManyPackets = 19
 number WrongCharacter = 21
+number SliceTooLong = 23
+number PlacePastEnd = 24
 
 -- WHAT A CALL TELLS WITH A REFUSAL: its number, and nothing of what it would return else. `tells` puts the two together
 abbrev pub refusedAs : {A B : Type 0} → (ℕ → A → B) → A → Refusal → B

@@ -31,6 +31,10 @@ pub enum Refusal {
     TooManyPackets,
     // 21: a character outside its set
     WrongCharacter,
+    // 23: a slice above 65,536 bytes
+    SliceTooLong,
+    // 24: a place past the end of its slice
+    PlacePastEnd,
 }
 
 // What a reader found wrong with bytes that it then passed over.
@@ -77,6 +81,8 @@ impl Refusal {
             Refusal::Spoilt => 18,
             Refusal::TooManyPackets => 19,
             Refusal::WrongCharacter => 21,
+            Refusal::SliceTooLong => 23,
+            Refusal::PlacePastEnd => 24,
         }
     }
 }

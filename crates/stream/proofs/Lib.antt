@@ -15,3 +15,4 @@ pub mod LostAreLast
 pub mod ResultsExist
 pub mod Demands
 pub mod AfterStorm
+pub mod SlicesAsStreams

@@ -29,6 +29,21 @@ shows {S} {M} {H} header s n said t used own is =
     ap {B = Seen S H} (λ (k : ℕ). record { state = s; number = k; told = said; used = used }) (own ∙ ap number is ∙ number-retold header t)
     ∙ ap {B = Seen S H} (λ (x : Told H). record { state = s; number = number t; told = x; used = used }) is
 
+-- where a header and the data that stand in the buffer make up the message, what is told of the header is told of the message again
+pub rejoined : {M H : Type 0} (header : M → H) (payload : M → List ℕ) (join : H → List ℕ → M) → ((m : M) (rest : List ℕ) → join (header m) (payload m ++ rest) ≡ m)
+    → (t : Told M) (lent : List ℕ) → retold (λ h. join h (delivered payload t lent)) (retold header t) ≡ t
+rejoined header payload join joins done lent = refl
+rejoined {M} header payload join joins (gives (message m)) lent = ap (λ (n : M). gives (message n)) (joins m (drop (length (payload m)) lent))
+rejoined header payload join joins (gives (damage n lost)) lent = refl
+rejoined header payload join joins (refuses n) lent = refl
+
+-- the lent buffer is as it was where no message is told
+pub untouched : {M : Type 0} (payload : M → List ℕ) (t : Told M) (lent : List ℕ) → ((m : M) → t ≡ gives (message m) → ⊥) → delivered payload t lent ≡ lent
+untouched payload done lent n = refl
+untouched payload (gives (message m)) lent n = absurd (n m refl)
+untouched payload (gives (damage k lost)) lent n = refl
+untouched payload (refuses k) lent n = refl
+
 module _ {S M H R : Type 0} (next : S → ℕ → Moved S (Event M)) (inRange : S → Bool) (header : M → H) (payload : M → List ℕ) (shown : R → Seen S H) where
   -- two results that the promise allows are shown alike, and the buffer holds the same
   pub steps-one : (s : S) (piece lent a b : List ℕ) (q r : R) → Steps next inRange header payload shown s piece lent q a → Steps next inRange header payload shown s piece lent r b
@@ -56,27 +71,15 @@ module _ {S M H R : Type 0} (next : S → ℕ → Moved S (Event M)) (inRange : 
 
   -- where a header and the data that stand in the buffer make up the message
   module _ (join : H → List ℕ → M) (joins : (m : M) (rest : List ℕ) → join (header m) (payload m ++ rest) ≡ m) where
-    rejoined : (t : Told M) (lent : List ℕ) → retold (λ h. join h (delivered payload t lent)) (retold header t) ≡ t
-    rejoined done lent = refl
-    rejoined (gives (message m)) lent = ap (λ (n : M). gives (message n)) (joins m (drop (length (payload m)) lent))
-    rejoined (gives (damage n lost)) lent = refl
-    rejoined (refuses n) lent = refl
-
     pub steps-seen : (s : S) (piece lent later : List ℕ) (r : R) → Steps next inRange header payload shown s piece lent r later
         → seenBy join shown r later ≡ called next inRange s piece lent
     steps-seen s piece lent later r st =
         let c = called next inRange s piece lent in
         ap (retells (λ h. join h later)) (st .0)
         ∙ ap {B = Seen S M} (λ (l : List ℕ). record { state = c .state; number = c .number; told = retold (λ h. join h l) (retold header (c .told)); used = c .used }) (st .1)
-        ∙ ap {B = Seen S M} (λ (t : Told M). record { state = c .state; number = c .number; told = t; used = c .used }) (rejoined (c .told) lent)
-
-    untouched : (t : Told M) (lent : List ℕ) → ((m : M) → t ≡ gives (message m) → ⊥) → delivered payload t lent ≡ lent
-    untouched done lent n = refl
-    untouched (gives (message m)) lent n = absurd (n m refl)
-    untouched (gives (damage k lost)) lent n = refl
-    untouched (refuses k) lent n = refl
+        ∙ ap {B = Seen S M} (λ (t : Told M). record { state = c .state; number = c .number; told = t; used = c .used }) (rejoined header payload join joins (c .told) lent)
 
     pub steps-keeps : (s : S) (piece lent later : List ℕ) (r : R) → Steps next inRange header payload shown s piece lent r later
         → ((m : M) → seenBy join shown r later .told ≡ gives (message m) → ⊥) → later ≡ lent
     steps-keeps s piece lent later r st n =
-        st .1 ∙ untouched (called next inRange s piece lent .told) lent (λ m e. n m (ap (λ (v : Seen S M). v .told) (steps-seen s piece lent later r st) ∙ e))
+        st .1 ∙ untouched payload (called next inRange s piece lent .told) lent (λ m e. n m (ap (λ (v : Seen S M). v .told) (steps-seen s piece lent later r st) ∙ e))

@@ -6,4 +6,5 @@ pub mod Rule
 pub mod Family
 pub mod Demands
 pub mod Storm
+pub mod Slice
 pub mod Delivery
