@@ -1,11 +1,15 @@
 pub mod MachineMoves
 pub mod StageRanges
 pub mod FillScans
+pub mod SearchedParts
 pub mod JudgedIsDelivered
 pub mod UnstuffingUndoes
 pub mod MachineFollowsRule
+pub mod StretchUnstuffed
+pub mod StretchJudged
 pub mod WrittenIsRead
 pub mod StretchesShownOnce
+pub mod FlagsSearched
 pub mod AcceptedIsWritten
 pub mod StoresMakeFrame
 pub mod WriterWritesFrame
@@ -13,4 +17,5 @@ pub mod ResultsExist
 pub mod FamilyFacts
 pub mod Demands
 pub mod AfterStorm
+pub mod SlicesAsStreams
 pub mod One

@@ -49,7 +49,7 @@ holds-full c h u b k r =
     let e : min (c + 1) tooMany ≡ tooMany = omega arith in
     subst (λ (n : ℕ). Holds bodyMax tooMany n h (u ++ b ∷ [])) e (holds-over bodyMax tooMany room c h u b k r)
 
-too-long : (n : ℕ) → bodyMax < n → sized n ≡ false
+pub too-long : (n : ℕ) → bodyMax < n → sized n ≡ false
 too-long n k = rw (le-leb bodyLeast n (omega arith), lt-leb n bodyMax k)
 
 -- so what is held is judged as the whole
@@ -76,11 +76,11 @@ stateOf half k c h = escaped k c h
 stateOf bad k c h = broken k c h
 
 -- u in front
-abbrev ahead : List ℕ → Option (List ℕ) → Option (List ℕ)
+abbrev pub ahead : List ℕ → Option (List ℕ) → Option (List ℕ)
 ahead u none = none
 ahead u (some v) = some (u ++ v)
 
-ahead-front : (u : List ℕ) (b : ℕ) (o : Option (List ℕ)) → ahead u (withFirst b o) ≡ ahead (u ++ b ∷ []) o
+pub ahead-front : (u : List ℕ) (b : ℕ) (o : Option (List ℕ)) → ahead u (withFirst b o) ≡ ahead (u ++ b ∷ []) o
 ahead-front u b none = refl
 ahead-front u b (some v) = ap some (sym (append-assoc u (b ∷ []) v))
 

@@ -11,16 +11,23 @@ use Rattle.answers.proofs.NumbersHaveCases.{refusals, damages}
 use Rattle.answers.proofs.WriterPromise.{writes-one}
 use Rattle.stream.specs.Event.{message, damage, Told, done, gives, refuses}
 use Rattle.stream.specs.Call.{Seen}
+use Rattle.stream.specs.Slice.{Asked}
 use Rattle.stream.proofs.PromiseOfStep.{steps-one}
+use Rattle.stream.proofs.SlicesAsStreams.{answers-one}
 use Rattle.comlynx.specs.Wire.{payloadMax, wire}
+use Rattle.comlynx.specs.Rules.{rule}
 use Rattle.comlynx.specs.Machine.{holding, next}
 use Rattle.comlynx.specs.Reader.{inRange, whole, header, told, shown, together, IsFresh, IsStep, IsStepInPlace}
+use Rattle.comlynx.specs.Stretch.{IsJudged}
+use Rattle.comlynx.specs.Slice.{knownAt, IsAnswerAt}
+use Rattle.comlynx.specs.Slice as Slice
 use Rattle.comlynx.specs.Writer.{IsWritten}
 use Rattle.comlynx.specs.declared.reader.Reader.{Reader}
 use Rattle.comlynx.specs.declared.reader.Header.{Header}
 use Rattle.comlynx.specs.declared.reader.Step.{Step}
 use Rattle.comlynx.specs.declared.reader.StepInPlace.{StepInPlace}
 use Rattle.comlynx.specs.declared.reader.Answer.{Answer}
+use Rattle.comlynx.specs.declared.slice.Found.{Found}
 use Rattle.comlynx.specs.declared.reader.Answer.the-variants.{Done, Message as Read, Damaged, Refused}
 
 pub fresh-one : (r s : Reader) → IsFresh r → IsFresh s → r ≡ s
@@ -69,6 +76,21 @@ step-in-place-one stage came count held piece lent x y a b q r f g =
     let one = steps-one next whole header (λ m. m .payload) shown (holding stage came count held) piece lent a b (together x q) (together y r) f g in
     let same = shown-alike (together x q) (together y r) (one .0) in
     (ap apart same, ap (λ (s : Step). s .reader .held) same, one .1)
+
+-- an answer and its place that are shown alike are one
+found-alike : (q r : Found) → Slice.shown q ≡ Slice.shown r → q ≡ r
+found-alike q r e =
+    let answer = told-alike (q .answer) (r .answer) (ap (λ (a : Asked Header). a .told) e) in
+    let place = ap (λ (a : Asked Header). a .place) e in
+    ap {B = Found} (λ a. record { answer = a; place = q .place }) answer ∙ ap {B = Found} (λ (n : ℕ). record { answer = r .answer; place = n }) place
+
+pub answer-at-one : (slice : List ℕ) (place : ℕ) (lent a b : List ℕ) (q r : Found) → IsAnswerAt slice place lent q a → IsAnswerAt slice place lent r b → (q ≡ r) × (a ≡ b)
+answer-at-one slice place lent a b q r x y =
+    let one = answers-one rule knownAt header (λ m. m .payload) Slice.shown slice lent a b place q r x y in
+    (found-alike q r (one .0), one .1)
+
+pub judge-stretch-one : (stretch lent a b : List ℕ) (q r : Answer) → IsJudged stretch lent q a → IsJudged stretch lent r b → (q ≡ r) × (a ≡ b)
+judge-stretch-one stretch lent a b q r x y = (told-alike q r (x .1 ∙ sym (y .1)), x .2 ∙ sym (y .2))
 
 pub write-one : (source destination kind : ℕ) (payload lent a b : List ℕ) (v w : Written) → IsWritten source destination kind payload lent v a → IsWritten source destination kind payload lent w b
     → (v ≡ w) × (a ≡ b)

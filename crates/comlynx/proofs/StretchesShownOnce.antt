@@ -19,16 +19,16 @@ use Rattle.comlynx.specs.Demands.{Stretch, eachClosed, eachJudged, Shown
 use Rattle.comlynx.proofs.WrittenIsRead.{within-stretch, within-flag}
 
 -- bytes with no flag among them come to nothing
-within-quiet : (w : List ℕ) → Stretch w → (at : ℕ) (came : List ℕ) → within at came w ≡ none
+pub within-quiet : (w : List ℕ) → Stretch w → (at : ℕ) (came : List ℕ) → within at came w ≡ none
 unfolding within
 within-quiet [] k at came = refl
 within-quiet (b ∷ w) k at came = rw (ne-eqb b flag (k .0)) (within-quiet w (k .1) (at + 1) (came ++ (b ∷ [])))
 
-within-empty : (at : ℕ) (bs : List ℕ) → within at [] (flag ∷ bs) ≡ within (at + 1) [] bs
+pub within-empty : (at : ℕ) (bs : List ℕ) → within at [] (flag ∷ bs) ≡ within (at + 1) [] bs
 unfolding within
 within-empty at bs = refl
 
-before-noise : (w : List ℕ) → Stretch w → (at : ℕ) (bs : List ℕ) → before at (w ++ (flag ∷ bs)) ≡ within (at + length w + 1) [] bs
+pub before-noise : (w : List ℕ) → Stretch w → (at : ℕ) (bs : List ℕ) → before at (w ++ (flag ∷ bs)) ≡ within (at + length w + 1) [] bs
 unfolding before
 before-noise [] k at bs = let e : at + 1 ≡ at + 0 + 1 = omega arith in ap (λ (n : ℕ). within n [] bs) e
 before-noise (b ∷ w) k at bs =

@@ -14,13 +14,18 @@ use Rattle.stream.specs.Rule.{Settled, readings}
 use Rattle.stream.specs.Family.{Family}
 use Rattle.stream.specs.Demands.{Demands}
 use Rattle.stream.specs.Storm as Storm
+use Rattle.stream.specs.Slice.{SliceReader}
+use Rattle.stream.specs.Slice as Stream
 use Rattle.comlynx.specs.Wire.{Message, Takes, payloadMax, body, flag, escape, wire}
 use Rattle.comlynx.specs.Rules.{judge, rule}
 use Rattle.comlynx.specs.Machine.{fresh}
 use Rattle.comlynx.specs.Reader.{join, shown, IsStep, whole}
+use Rattle.comlynx.specs.Slice.{knownAt, IsAnswerAt}
+use Rattle.comlynx.specs.Slice as Slice
 use Rattle.comlynx.specs.Writer.{IsWritten}
 use Rattle.comlynx.specs.declared.reader.Reader.{Reader}
 use Rattle.comlynx.specs.declared.reader.Step.{Step}
+use Rattle.comlynx.specs.declared.slice.Found.{Found}
 
 -- what is known is whether a flag was just seen: at the start none was; after an event the flag that settled it was
 abbrev pub comlynx : Family
@@ -45,6 +50,20 @@ comlynx = record {
 -- WHAT IS DEMANDED OF COMLYNX: demands 1 to 3 of document 01, each a field of `Demands`, over the rule, the writer and the reader above
 abbrev pub Demanded : Type 0
 Demanded = Demands comlynx
+
+-- its reader of slices: where the flag counts as just seen, a fresh streaming reader is handed it first
+abbrev pub slices : SliceReader comlynx
+slices = record {
+  knownAt = knownAt;
+  handedFirst = λ known. cond known (flag ∷ []) [];
+  Found = Found;
+  Answers = IsAnswerAt;
+  seen = Stream.seenBy join Slice.shown;
+}
+
+-- WHAT IS DEMANDED OF ITS READER OF SLICES (document 02, Req 10), each a field of stream's `SlicesAsStreams`
+abbrev pub SlicesAsStreams : Type 0
+SlicesAsStreams = Stream.SlicesAsStreams comlynx slices
 
 -- ---- its own
 

@@ -1,21 +1,25 @@
 -- What the inner functions promise. No public promise cites this file: it need not be read.
-use Prim.Native.Nat.{ℕ, _+_, _-_, _≤_, _<_}
+use Prim.Native.Nat.{ℕ, min, _+_, _-_, _≤_, _<_}
 use mathlib.Core.Path.{_≡_}
-use mathlib.Core.Bool.{Bool, true, _&&_}
+use mathlib.Core.Bool.{Bool, true, cond, _&&_}
 use mathlib.Core.Option.{Option, none, some}
 use mathlib.Core.List.{List, [], _∷_, _++_}
-use lib.ListN.{length, take, getD}
+use lib.ListN.{length, take, drop, getD}
 use lib.Seq.{sets}
 use lib.Dec.{eqb}
 use Rattle.stream.specs.Event.{Event, damage}
 use Rattle.stream.specs.Event as Event
-use Rattle.stream.specs.Call.{retold}
+use Rattle.stream.specs.Call.{retold, delivered}
 use Rattle.stream.specs.Pieces.{scan, scanFrom}
 use Rattle.stream.specs.Delivery as Delivery
-use Rattle.comlynx.specs.Wire.{Message, payloadMax, flag, escape, stuffed, bodyMax}
-use Rattle.comlynx.specs.Rules.{lostMax, judged}
-use Rattle.comlynx.specs.Machine.{holding, inside, more, inRange, closed, next}
+use Rattle.stream.specs.Slice.{answered}
+use Rattle.stream.specs.Slice as Slice
+use Rattle.comlynx.specs.Wire.{Message, payloadMax, flag, escape, flagPair, escapePair, stuffed, bodyMax}
+use Rattle.comlynx.specs.Rules.{lostMax, judged, judge, within, rule}
+use Rattle.comlynx.specs.Machine.{tooMany, holding, inside, more, inRange, closed, next}
 use Rattle.comlynx.specs.Reader.{told, header}
+use Rattle.comlynx.specs.Slice.{knownAt, shown}
+use Rattle.comlynx.specs.declared.slice.Found.{Found}
 use Rattle.comlynx.specs.declared.reader.Header.{Header}
 use Rattle.comlynx.specs.declared.reader.Answer.{Answer}
 use Rattle.comlynx.specs.declared.reader.Ran.{Ran}
@@ -73,6 +77,60 @@ Small answer = Delivery.Small (λ (h : Header). h .len) payloadMax (told answer)
 
 abbrev pub given : Answer → List ℕ → List ℕ → List ℕ
 given answer = Delivery.given (λ (h : Header). h .len) 8 (told answer)
+
+-- ---- the search for a byte
+
+-- b is none of the bytes from `from` up to `to`
+abbrev pub Absent : ℕ → List ℕ → ℕ → ℕ → Type 0
+Absent b s from to = (k : ℕ) → from ≤ k → k < to → getD s k 0 ≡ b → ⊥
+
+-- `past_runs`: passed over such bytes
+abbrev pub Searched : ℕ → List ℕ → ℕ → ℕ → Type 0
+Searched b s from r = (from ≤ r) × (r ≤ length s) × Absent b s from r
+
+-- `byte_from`: and there it stands, if that is not the end
+abbrev pub FirstAt : ℕ → List ℕ → ℕ → ℕ → Type 0
+FirstAt b s from r = Searched b s from r × (r < length s → getD s r 0 ≡ b)
+
+-- ---- one whole stretch
+
+-- of the body u so many bytes are held, `tooMany` where there is no room for all of them
+pub record Held (count : ℕ) (held u : List ℕ) : Type 0 where
+  pub wide : length held ≡ bodyMax
+  pub counted : count ≡ min (length u) tooMany
+  pub same : length u ≤ bodyMax → take count held ≡ u
+
+-- `keep_part` and `keep_one`: whatever was held, these bytes are too
+abbrev pub Keeps : ℕ → List ℕ → List ℕ → ℕ → List ℕ → Type 0
+Keeps count held part r later = (u : List ℕ) → Held count held u → Held r later (u ++ part)
+
+-- `pair_at`: the byte that the pair at this index stands for; 0 is none of them
+abbrev pub pairAt : List ℕ → ℕ → ℕ
+pairAt s at =
+    let b = getD s (at + 1) 0 in
+    cond (eqb b flagPair) flag (cond (eqb b escapePair) escape 0)
+
+-- `unstuff`: the end tells what the stretch comes to
+abbrev pub Unstuffs : List ℕ → End → List ℕ → Type 0
+Unstuffs stretch end held = (length held ≡ bodyMax) × (eventOf end held ≡ some (judge stretch))
+
+-- ---- a slice
+
+-- `opened`: from there on a stretch is looked for
+abbrev pub Opened : List ℕ → ℕ → ℕ → Type 0
+Opened s place r = (place ≤ r) × (r ≤ length s) × (rule (knownAt s place) (drop place s) ≡ within (r - place) [] (drop r s))
+
+-- `past_flags`: from there on the same is found, and no flag stands there
+abbrev pub PastFlags : List ℕ → ℕ → ℕ → Type 0
+PastFlags s from r =
+    (from ≤ r) × (r ≤ length s) × ((at : ℕ) → within at [] (drop from s) ≡ within (at + (r - from)) [] (drop r s))
+    × (r < length s → getD s r 0 ≡ flag → ⊥)
+
+-- `find`: what the rule finds from the place
+abbrev pub Finds : List ℕ → ℕ → List ℕ → Found → List ℕ → Type 0
+Finds slice place lent r later =
+    let a = answered place (length slice) (rule (knownAt slice place) (drop place slice)) in
+    (shown r ≡ Slice.retells header a) × (later ≡ delivered (λ (m : Message). m .payload) (a .told) lent)
 
 -- ---- the writer
 

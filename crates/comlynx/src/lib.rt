@@ -1,5 +1,8 @@
-// ComLynx: reader and writer.
+// ComLynx: reader, reader of slices, and writer.
 pub mod reader;
+mod search;
+pub mod slice;
+pub mod stretch;
 pub mod writer;
 
 pub use reader::Answer;
@@ -8,4 +11,7 @@ pub use reader::Reader;
 pub use reader::Step;
 pub use reader::StepInPlace;
 pub use reader::step_in_place;
+pub use slice::Found;
+pub use slice::answer_at;
+pub use stretch::judge_stretch;
 pub use writer::write;

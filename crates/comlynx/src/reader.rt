@@ -91,10 +91,10 @@ const ESCAPED: u8 = 2;
 const BROKEN: u8 = 3;
 
 // The count of a stretch that has more bytes than a body may have.
-const TOO_MANY: usize = Reader::BODY + 1;
+pub(crate) const TOO_MANY: usize = Reader::BODY + 1;
 
 // The number of lost bytes that stands for itself or more.
-const LOST_MAX: u16 = 65535;
+pub(crate) const LOST_MAX: u16 = 65535;
 
 // The two bytes that mean something, and what follows the escape where they are meant themselves.
 pub(crate) const FLAG: u8 = 0x7e;
@@ -206,7 +206,7 @@ fn advance(stage: u8, count: usize, b: u8) -> Move
 }
 
 // How a run over a piece ended.
-enum End {
+pub(crate) enum End {
     UsedUp,
     // at the flag that closes a stretch of so many unstuffed bytes, for which so many came
     Closed { count: usize, came: u16 },
@@ -224,7 +224,7 @@ struct Ran {
 }
 
 // How many bytes are looked at together.
-const RUN: usize = 16;
+pub(crate) const RUN: usize = 16;
 
 // Whether the next RUN bytes are all plain: neither flag nor escape.
 fn plain(s: &[u8], at: usize) -> bool
@@ -444,7 +444,7 @@ fn judge_frame(count: usize, came: u16, low: u8, high: u8, held: &[u8]) -> Answe
 }
 
 // What the end of a run comes to. The checksum is asked for here, once where a stretch closes.
-fn judge(end: End, held: &[u8]) -> Answer
+pub(crate) fn judge(end: End, held: &[u8]) -> Answer
     requires { ⌜ length (now held) ≡ bodyMax ⌝ }
     ensures { λ r. ⌜ JudgedAs (eventOf end (now (held .entry))) r ⌝ }
 {
@@ -460,7 +460,7 @@ fn judge(end: End, held: &[u8]) -> Answer
 }
 
 // A message's data go to the front of the lent buffer.
-fn deliver(answer: Answer, held: &[u8], lent: &mut [u8])
+pub(crate) fn deliver(answer: Answer, held: &[u8], lent: &mut [u8])
     requires { ⌜ Small answer × (length (now held) ≡ bodyMax) × (lentLeast ≤ length (now lent)) ⌝ }
     ensures { λ _. ⌜ now (lent .exit) ≡ given answer (now (held .entry)) (now (lent .entry)) ⌝ }
 {

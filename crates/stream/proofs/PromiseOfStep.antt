@@ -16,7 +16,7 @@ pub in-room : {S M : Type 0} (next : S → ℕ → Moved S (Event M)) (inRange :
 in-room next inRange s piece lent r h = rw (r, le-ltb (length lent) lentLeast h)
 
 -- a header for a message leaves the number as it is
-number-retold : {M H : Type 0} (f : M → H) (t : Told M) → number (retold f t) ≡ number t
+pub number-retold : {M H : Type 0} (f : M → H) (t : Told M) → number (retold f t) ≡ number t
 number-retold f done = refl
 number-retold f (gives (message m)) = refl
 number-retold f (gives (damage n lost)) = refl

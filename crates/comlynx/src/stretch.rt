@@ -1,0 +1,112 @@
+// One whole stretch, the bytes between two successive flags: unstuffed, judged and handed over, with no state before or after it.
+//
+// What a stretch stands for is taken in by parts: up to the next escape all bytes stand for themselves.
+use crate::reader::Answer;
+use crate::reader::ESCAPE;
+use crate::reader::ESCAPE_PAIR;
+use crate::reader::End;
+use crate::reader::FLAG;
+use crate::reader::FLAG_PAIR;
+use crate::reader::LOST_MAX;
+use crate::reader::Reader;
+use crate::reader::TOO_MANY;
+use crate::reader::deliver;
+use crate::reader::judge;
+use crate::search::byte_from;
+use answers::Refusal;
+use numbers::least;
+ghost use Prim.Native.Nat.{_<_, _≤_};
+ghost use mathlib.Core.Path.{_≡_};
+ghost use mathlib.Core.List.{[], _∷_};
+ghost use lib.ListN.{length};
+ghost use Rattle.comlynx.specs.Wire.{bodyMax};
+ghost use Rattle.comlynx.specs.Machine.{tooMany};
+ghost use Rattle.comlynx.specs.Stretch.{IsJudged};
+ghost use Rattle.comlynx.specs.Inside.{Keeps, pairAt, Unstuffs};
+
+// Takes in bytes that stand for themselves, where there is room for all of them. Gives how many are held then, or TOO_MANY: a stretch that has
+// more than a body may have is a damage, whatever is held of it.
+fn keep_part(count: usize, held: &mut [u8], part: &[u8]) -> usize
+    requires { ⌜ (length (now held) ≡ bodyMax) × (count ≤ tooMany) ⌝ }
+    ensures { λ r. ⌜ Keeps count (now (held .entry)) (now (part .entry)) r (now (held .exit)) ⌝ }
+{
+    if Reader::BODY < count {
+        return TOO_MANY;
+    }
+    if Reader::BODY - count < part.len() {
+        return TOO_MANY;
+    }
+    bytes::copy(part, &mut held[count..]);
+    count + part.len()
+}
+
+// The same of the one byte that a pair stands for.
+fn keep_one(count: usize, held: &mut [u8], v: u8) -> usize
+    requires { ⌜ (length (now held) ≡ bodyMax) × (count ≤ tooMany) ⌝ }
+    ensures { λ r. ⌜ Keeps count (now (held .entry)) (v ∷ []) r (now (held .exit)) ⌝ }
+{
+    if Reader::BODY <= count {
+        return TOO_MANY;
+    }
+    held[count] = v;
+    count + 1
+}
+
+// What the escape at `at` and the byte after it stand for; 0 where the pair is broken.
+fn pair_at(stretch: &[u8], at: usize) -> u8
+    requires { ⌜ at < length (now stretch) ⌝ }
+    ensures { λ r. ⌜ r ≡ pairAt (now (stretch .entry)) at ⌝ }
+{
+    if stretch.len() - at < 2 {
+        return 0;
+    }
+    let b = stretch[at + 1];
+    if b == FLAG_PAIR {
+        return FLAG;
+    }
+    if b == ESCAPE_PAIR {
+        return ESCAPE;
+    }
+    0
+}
+
+// Unstuffs a stretch into `held`, and says how it ends. It is searched for a broken pair to its end, however long it is.
+fn unstuff(stretch: &[u8], held: &mut [u8]) -> End
+    requires { ⌜ length (now held) ≡ bodyMax ⌝ }
+    ensures { λ r. ⌜ Unstuffs (now (stretch .entry)) r (now (held .exit)) ⌝ }
+{
+    let came = least(stretch.len(), LOST_MAX as usize) as u16;
+    let mut count: usize = 0;
+    let mut i: usize = 0;
+    while i < stretch.len() {
+        let j = byte_from(ESCAPE, stretch, i);
+        count = keep_part(count, held, &stretch[i..j]);
+        i = j;
+        if j < stretch.len() {
+            let v = pair_at(stretch, j);
+            if v == 0 {
+                return End::Broken { came };
+            }
+            count = keep_one(count, held, v);
+            i = j + 2;
+        }
+    }
+    End::Closed { count, came }
+}
+
+// Judges one whole stretch, handed over without its flags. With a message its data stand at the front of `lent`; an empty stretch gives nothing.
+pub fn judge_stretch(stretch: &[u8], lent: &mut [u8]) -> Answer
+    ensures { λ r. ⌜ IsJudged (now (stretch .entry)) (now (lent .entry)) r (now (lent .exit)) ⌝ }
+{
+    if lent.len() < Reader::LENT {
+        return Answer::Refused(Refusal::NoRoom);
+    }
+    if stretch.len() == 0 {
+        return Answer::Done;
+    }
+    let mut held = [0; Reader::BODY];
+    let end = unstuff(stretch, &mut held);
+    let answer = judge(end, &held);
+    deliver(answer, &held, lent);
+    answer
+}
