@@ -19,7 +19,7 @@ ghost use Rattle.fronius.specs.Wire.{payloadMax, checksum};
 ghost use Rattle.numbers.specs.Lists.{total};
 ghost use Rattle.fronius.specs.Machine.{heldMax, advanceOf, inRange};
 ghost use Rattle.fronius.specs.Reader.{IsFresh, IsStep, IsStepInPlace};
-ghost use Rattle.fronius.specs.Inside.{Filled, Opens, Enters, Fits, Runs, eventOf, judgedFrame, JudgedAs, Small, given};
+ghost use Rattle.fronius.specs.Inside.{Filled, Opens, Enters, Fits, Runs, eventOf, judgedFrame, JudgedAs, Small, Held, given};
 
 // The limits, named here because the reader's own constants cannot size its own array. 80 80 80, length, device, number and command come before the data.
 const HEADER: usize = 7;
@@ -38,7 +38,7 @@ pub(crate) const UNHELD: usize = 4;
 const HELD: usize = BODY - UNHELD - SUM;
 
 // Where the data begin among the held bytes.
-const PAYLOAD_AT: usize = HEADER - UNHELD;
+pub(crate) const PAYLOAD_AT: usize = HEADER - UNHELD;
 
 // What the bytes read so far have led to. At the start `len` is 0 and no byte is held. What `held` has beyond the bytes held is left over and means nothing.
 pub struct Reader {
@@ -94,7 +94,7 @@ const IN_BODY: u8 = 1;
 // The byte of which three make a start, and how many do.
 pub(crate) const MARK: u8 = 0x80;
 
-const STARTS: usize = 3;
+pub(crate) const STARTS: usize = 3;
 
 // Whether stage, count and length are in the stage's range.
 fn in_range(stage: u8, count: usize, len: usize) -> bool
@@ -344,9 +344,9 @@ pub(crate) fn checksum_of(len: usize, s: &[u8]) -> u8
     (sum % 256) as u8
 }
 
-// What a frame comes to, by its length, the checksum that came and the held bytes.
-fn judge_frame(len: usize, sum: u8, held: &[u8]) -> Answer
-    requires { ⌜ (len ≤ payloadMax) × (length (now held) ≡ heldMax) ⌝ }
+// What a frame comes to, by its length, the checksum that came and the bytes held of it, which stand at the front of `held`.
+pub(crate) fn judge_frame(len: usize, sum: u8, held: &[u8]) -> Answer
+    requires { ⌜ (len ≤ payloadMax) × (3 + len ≤ length (now held)) ⌝ }
     ensures { λ r. ⌜ JudgedAs (judgedFrame len sum (now (held .entry))) r ⌝ }
 {
     if sum != checksum_of(len, held) {
@@ -383,8 +383,8 @@ fn judge(end: End, held: &[u8]) -> Answer
 }
 
 // A message's data go to the front of the lent buffer.
-fn deliver(answer: Answer, held: &[u8], lent: &mut [u8])
-    requires { ⌜ Small answer × (length (now held) ≡ heldMax) × (lentLeast ≤ length (now lent)) ⌝ }
+pub(crate) fn deliver(answer: Answer, held: &[u8], lent: &mut [u8])
+    requires { ⌜ Small answer × Held answer (now held) × (lentLeast ≤ length (now lent)) ⌝ }
     ensures { λ _. ⌜ now (lent .exit) ≡ given answer (now (held .entry)) (now (lent .entry)) ⌝ }
 {
     match answer {

@@ -6,6 +6,7 @@ use Rattle.stream.specs.Call.{retold}
 use Rattle.fronius.specs.Reader.{header}
 use Rattle.fronius.specs.Inside.{Fits, eventOf}
 use Rattle.fronius.specs.declared.reader.End.{End}
+use native.Mathlib.Omega.{arith}
 use Prim.Native.Nat.{_≤_}
 use mathlib.Core.Path.{sym, _∙_, ap}
 use borrow.Author.Needs.{needs}
@@ -22,7 +23,7 @@ judge-frame-requires : tie.Need-judge-frame-requires
 judge-frame-requires c κs =
     let p = c .before .before .before .before .pre in
     let fits : c .before .end .given .0 .0 ≤ 127 = subst Fits (c .before .end .given .1) (p .0) in
-    (fits, p .1)
+    (fits, omega (arith, p .1, fits))
 
 enum-told-2 : tie.Need-enum-told-2
 enum-told-2 c = search needs
