@@ -2,6 +2,8 @@ pub mod MachineMoves
 pub mod StageRanges
 pub mod EnteredIsScanned
 pub mod JudgedIsDelivered
+pub mod FoundFromPlace
+pub mod FoundIsAnswered
 pub mod WriterWritesFrame
 pub mod MachineFollowsRule
 pub mod AcceptedIsWritten

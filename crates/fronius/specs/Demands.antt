@@ -10,15 +10,19 @@ use Rattle.answers.specs.declared.Written.{Written}
 use Rattle.stream.specs.Event.{damage}
 use Rattle.stream.specs.Call.{seenBy}
 use Rattle.stream.specs.Family.{Family}
+use Rattle.stream.specs.Slice.{SliceReader}
+use Rattle.stream.specs.Slice as Slice
 use Rattle.stream.specs.Demands.{Demands, EndsWith}
 use Rattle.stream.specs.Storm.{AfterStorm, NeverRead}
 use Rattle.fronius.specs.Wire.{Message, Takes, wire}
 use Rattle.fronius.specs.Rules.{rule}
 use Rattle.fronius.specs.Machine.{fresh}
 use Rattle.fronius.specs.Reader.{join, shown, IsStep}
+use Rattle.fronius.specs.Slice.{knownAt, shown as shownAt, IsAnswerAt}
 use Rattle.fronius.specs.Writer.{IsWritten}
 use Rattle.fronius.specs.declared.reader.Reader.{Reader}
 use Rattle.fronius.specs.declared.reader.Step.{Step}
+use Rattle.fronius.specs.declared.slice.Found.{Found}
 
 abbrev pub fronius : Family
 fronius = record {
@@ -42,6 +46,14 @@ fronius = record {
 -- WHAT IS DEMANDED OF FRONIUS: demands 1 to 3 of document 01, each a field of `Demands`, over the rule, the writer and the reader above
 abbrev pub Demanded : Type 0
 Demanded = Demands fronius
+
+-- its reader of slices: no byte before a place counts, so a fresh streaming reader is handed none first
+abbrev pub slices : SliceReader fronius
+slices = record { knownAt = knownAt; handedFirst = λ known. []; Found = Found; Answers = IsAnswerAt; seen = Slice.seenBy join shownAt }
+
+-- AND OF THAT READER (document 02, Req 10): from each place, and over a whole slice, it tells what the streaming reader tells
+abbrev pub SlicesAsStreams : Type 0
+SlicesAsStreams = Slice.SlicesAsStreams fronius slices
 
 -- ---- its own
 

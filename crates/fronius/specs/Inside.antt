@@ -4,22 +4,27 @@ use mathlib.Core.Path.{_≡_}
 use mathlib.Core.Bool.{true}
 use mathlib.Core.Option.{Option, none, some}
 use mathlib.Core.List.{List, [], _∷_}
-use lib.ListN.{length, take, getD}
+use lib.ListN.{length, take, drop, getD}
 use Rattle.stream.specs.Event.{Event, damage}
 use Rattle.stream.specs.Event as Event
-use Rattle.stream.specs.Call.{retold}
+use Rattle.stream.specs.Call.{retold, delivered}
 use Rattle.stream.specs.Pieces.{scan, scanFrom}
 use Rattle.stream.specs.Delivery as Delivery
+use Rattle.stream.specs.Rule.{Settled}
+use Rattle.stream.specs.Slice.{answered, retells}
 use Rattle.fronius.specs.Wire.{Message, payloadMax, mark}
-use Rattle.fronius.specs.Rules.{judged}
+use Rattle.fronius.specs.Rules.{judged, sized, sought}
 use Rattle.fronius.specs.Machine.{holding, filling, inRange, next}
 use Rattle.fronius.specs.Reader.{told, header}
+use Rattle.fronius.specs.Slice.{shown}
 use Rattle.fronius.specs.declared.reader.Header.{Header}
 use Rattle.fronius.specs.declared.reader.Answer.{Answer}
+use Rattle.fronius.specs.declared.reader.Answer.the-variants.{Done}
 use Rattle.fronius.specs.declared.reader.Entered.{Entered}
 use Rattle.fronius.specs.declared.reader.Ran.{Ran}
 use Rattle.fronius.specs.declared.reader.End.{End}
 use Rattle.fronius.specs.declared.reader.End.the-variants.{UsedUp, Closed, BadLength}
+use Rattle.fronius.specs.declared.slice.Found.{Found}
 
 -- `fill`: the bytes from i up to j are taken into the body, and the call goes on from there
 pub record Filled (count len : ℕ) (held piece : List ℕ) (i j : ℕ) (later : List ℕ) : Type 0 where
@@ -83,3 +88,35 @@ given answer = Delivery.given (λ (h : Header). h .len) 3 (told answer)
 -- `put_lead`: all that stands before the data
 abbrev pub lead : ℕ → ℕ → ℕ → ℕ → List ℕ
 lead len device number command = mark ∷ mark ∷ mark ∷ len ∷ device ∷ number ∷ command ∷ []
+
+-- ---- the reader of slices
+
+-- `start_from`: what the search for a start finds from `from` on stands behind the three bytes at r; at the end of the slice that is nothing
+pub record StartFrom (slice : List ℕ) (from r : ℕ) : Type 0 where
+  pub forward : from ≤ r
+  pub within : r ≤ length slice
+  pub found : sought 0 (drop from slice) ≡ sized (r - from + 3) (drop (r + 3) slice)
+
+-- `past_marks`: 80s where a length comes are passed over, and at r there is none
+pub record PastMarks (slice : List ℕ) (from r : ℕ) : Type 0 where
+  pub forward : from ≤ r
+  pub other : getD slice r 0 ≡ mark → ⊥
+  pub found : (at : ℕ) → sized at (drop from slice) ≡ sized (at + (r - from)) (drop r slice)
+
+-- `used_up`: nothing is told, and the place is the end
+abbrev pub IsUsedUp : List ℕ → Found → Type 0
+IsUsedUp slice r = r ≡ record { answer = Done; place = length slice }
+
+-- what was found from a place on is answered, and delivered
+abbrev pub Answered : List ℕ → ℕ → List ℕ → Option (Settled (Event Message)) → Found → List ℕ → Type 0
+Answered slice place lent o r later =
+    let a = answered place (length slice) o in
+    (shown r ≡ retells header a) × (later ≡ delivered (λ (m : Message). m .payload) (a .told) lent)
+
+-- `frame_at`: what is found from a length at k on, wherever the search for it began
+abbrev pub FrameAt : List ℕ → ℕ → List ℕ → Found → List ℕ → Type 0
+FrameAt slice k lent r later = (place : ℕ) → place ≤ k → Answered slice place lent (sized (k - place) (drop k slice)) r later
+
+-- `answer_from`: what is found from the place on
+abbrev pub AnswerFrom : List ℕ → ℕ → List ℕ → Found → List ℕ → Type 0
+AnswerFrom slice place lent = Answered slice place lent (sought 0 (drop place slice))
