@@ -11,10 +11,14 @@ use Rattle.answers.proofs.NumbersHaveCases.{refusals, damages}
 use Rattle.answers.proofs.WriterPromise.{writes-one}
 use Rattle.stream.specs.Event.{message, damage, Told, done, gives, refuses}
 use Rattle.stream.specs.Call.{Seen}
+use Rattle.stream.specs.Slice.{Asked}
 use Rattle.stream.proofs.PromiseOfStep.{steps-one}
+use Rattle.stream.proofs.SlicesAsStreams.{answers-one}
 use Rattle.fronius.specs.Wire.{payloadMax, wire}
+use Rattle.fronius.specs.Rules.{rule}
 use Rattle.fronius.specs.Machine.{holding, next}
 use Rattle.fronius.specs.Reader.{inRange, whole, header, told, shown, together, IsFresh, IsStep, IsStepInPlace}
+use Rattle.fronius.specs.Slice.{knownAt, shown as shownAt, IsAnswerAt}
 use Rattle.fronius.specs.Writer.{IsWritten}
 use Rattle.fronius.specs.declared.reader.Reader.{Reader}
 use Rattle.fronius.specs.declared.reader.Header.{Header}
@@ -22,6 +26,7 @@ use Rattle.fronius.specs.declared.reader.Step.{Step}
 use Rattle.fronius.specs.declared.reader.StepInPlace.{StepInPlace}
 use Rattle.fronius.specs.declared.reader.Answer.{Answer}
 use Rattle.fronius.specs.declared.reader.Answer.the-variants.{Done, Message as Read, Damaged, Refused}
+use Rattle.fronius.specs.declared.slice.Found.{Found}
 
 pub fresh-one : (r s : Reader) → IsFresh r → IsFresh s → r ≡ s
 fresh-one r s x y = x ∙ sym y
@@ -69,6 +74,18 @@ step-in-place-one stage count len held piece lent x y a b q r f g =
     let one = steps-one next whole header (λ m. m .payload) shown (holding stage count len held) piece lent a b (together x q) (together y r) f g in
     let same = shown-alike (together x q) (together y r) (one .0) in
     (ap apart same, ap (λ (s : Step). s .reader .held) same, one .1)
+
+-- what is found and shown alike is one
+found-alike : (q r : Found) → shownAt q ≡ shownAt r → q ≡ r
+found-alike q r e =
+    let answer = told-alike (q .answer) (r .answer) (ap (λ (a : Asked Header). a .told) e) in
+    ap {B = Found} (λ a. record { answer = a; place = q .place }) answer
+    ∙ ap {B = Found} (λ (k : ℕ). record { answer = r .answer; place = k }) (ap (λ (a : Asked Header). a .place) e)
+
+pub answer-at-one : (slice : List ℕ) (place : ℕ) (lent a b : List ℕ) (q r : Found) → IsAnswerAt slice place lent q a → IsAnswerAt slice place lent r b → (q ≡ r) × (a ≡ b)
+answer-at-one slice place lent a b q r x y =
+    let one = answers-one rule knownAt header (λ m. m .payload) shownAt slice lent a b place q r x y in
+    (found-alike q r (one .0), one .1)
 
 pub write-one : (device number command : ℕ) (payload lent a b : List ℕ) (v w : Written) → IsWritten device number command payload lent v a → IsWritten device number command payload lent w b
     → (v ≡ w) × (a ≡ b)
