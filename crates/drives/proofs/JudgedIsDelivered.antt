@@ -1,9 +1,9 @@
 -- What an answer tells by its number, and what a judged frame tells and delivers.
 -- Assumes nothing.
-use Prim.Native.Nat.{ℕ, _+_, _-_, _≤_, _<_}
-use mathlib.Core.Path.{_≡_, refl, sym, ap, _∙_}
+use Prim.Native.Nat.{ℕ, min, _+_, _-_, _≤_, _<_}
+use mathlib.Core.Path.{_≡_, refl, sym, ap, _∙_, subst}
 use mathlib.Core.Bool.{Bool, true, false}
-use mathlib.Core.Option.{some}
+use mathlib.Core.Option.{Option, none, some}
 use mathlib.Core.List.{List}
 use lib.ListN.{length, take, drop, getD, length-drop}
 use lib.Seq.{getD-take, length-take-le, take-take}
@@ -11,15 +11,16 @@ use native.Mathlib.Omega.{arith}
 use Rattle.answers.specs.Answer.{need}
 use Rattle.answers.specs.declared.Damage.the-variants.{WrongBodyLength, WrongCharacter, WrongSum}
 use Rattle.stream.proofs.ListLaws.{drop-take}
-use Rattle.stream.proofs.HeldIsDelivered.{Delivers, delivers-held, delivers-told}
-use Rattle.stream.specs.Event.{message, damage, Told, gives, outcome}
+use Rattle.stream.proofs.HeldIsDelivered.{Delivers, delivers-held}
+use Rattle.stream.specs.Event.{Event, message, damage, Told, gives, outcome}
 use Rattle.stream.specs.Event as Event
 use Rattle.stream.specs.Call.{retold, delivered}
+use Rattle.stream.specs.Delivery as Delivery
 use Rattle.drives.specs.Wire.{Message, proper, messageOf}
 use Rattle.drives.specs.Rules.{sized, agrees, judged}
 use Rattle.drives.specs.Machine.{heldMax, closed}
 use Rattle.drives.specs.Reader.{number, told, header}
-use Rattle.drives.specs.Inside.{eventOf, Fits, JudgedAs, Small, given}
+use Rattle.drives.specs.Inside.{eventOf, JudgedAs, Small, There, given}
 use Rattle.drives.specs.declared.reader.Header.{Header}
 use Rattle.drives.specs.declared.reader.Answer.{Answer}
 use Rattle.drives.specs.declared.reader.Answer.the-variants.{Done, Message as Read, Damaged, Refused}
@@ -52,24 +53,25 @@ behind-letter count held h =
     let e : count ≡ 3 + (count - 3) = omega arith in
     ap (λ (k : ℕ). drop 3 (take k held)) e ∙ drop-take 3 (count - 3) held
 
-module _ (opening count : ℕ) (held : List ℕ) (full : length held ≡ heldMax) (fits : sized opening (count + 2) ≡ true) where
+-- as many are there as a message may have, or all of them
+module _ (opening count : ℕ) (held : List ℕ) (there : min count heldMax ≤ length held) (fits : sized opening (count + 2) ≡ true) where
   least : 5 ≤ count
   least = sized-bounds opening count fits .0
 
-  most : count ≤ heldMax
-  most = sized-bounds opening count fits .1
+  pub all-there : count ≤ length held
+  all-there = omega (arith, there, sized-bounds opening count fits .1)
 
   at-place : (i : ℕ) → i < count → getD (take count held) i 0 ≡ getD held i 0
   at-place i h = getD-take count held i 0 h
 
   held-bytes : messageOf opening (take count held) .payload ≡ take (count - 5) (drop 3 held)
   held-bytes =
-      ap (λ (k : ℕ). take (k - 5) (drop 3 (take count held))) (length-take-le count held (omega (arith, most)))
+      ap (λ (k : ℕ). take (k - 5) (drop 3 (take count held))) (length-take-le count held all-there)
       ∙ ap (take (count - 5)) (behind-letter count held (omega (arith, least)))
       ∙ take-take (count - 5) (count - 3) (drop 3 held) (omega (arith, least))
 
   held-length : length (messageOf opening (take count held) .payload) ≡ count - 5
-  held-length = ap length held-bytes ∙ length-take-le (count - 5) (drop 3 held) (simp length-drop (omega (arith, least, most)))
+  held-length = ap length held-bytes ∙ length-take-le (count - 5) (drop 3 held) (simp length-drop (omega (arith, least, all-there)))
 
   held-header : header (messageOf opening (take count held)) ≡ heldHeader opening (count - 5) held
   held-header = rw (at-place 0 (omega (arith, least)), at-place 1 (omega (arith, least)), at-place 2 (omega (arith, least)), held-length)
@@ -91,37 +93,53 @@ module _ (opening count : ℕ) (held : List ℕ) where
       unfolding judged
       judged-sum e = rw (fits, inSets, e)
 
-      pub judged-message : length held ≡ heldMax → agrees (take count held) ≡ true
+      pub judged-message : min count heldMax ≤ length held → agrees (take count held) ≡ true
           → JudgedAs (some (closed opening count held)) (Read (heldHeader opening (count - 5) held))
       unfolding judged
-      judged-message full e =
+      judged-message there e =
           rw (fits, inSets, e)
-          (ap (λ (h : Header). gives (message h)) (sym (held-header opening count held full fits)))
+          (ap (λ (h : Header). gives (message h)) (sym (held-header opening count held there fits)))
 
--- ---- what the end of a run delivers
+-- ---- what a judged frame delivers, and what the end of a run does
 
-abbrev DeliversTo : List ℕ → List ℕ → Told Message → Type 0
-DeliversTo held lent t = Delivers header (λ m. m .payload) (λ h. h .len) 37 3 held lent (retold header t) t
+-- what is told is small and there, and what is delivered by it is what t delivers
+abbrev HandsOver : List ℕ → List ℕ → Told Header → Told Message → Type 0
+HandsOver held lent told t = Delivery.Small (λ (h : Header). 3 + h .len) (length held) told × Delivers header (λ m. m .payload) (λ h. h .len) 37 3 held lent told t
 
-end-delivers : (end : End) (held lent : List ℕ) → length held ≡ heldMax → DeliversTo held lent (outcome (eventOf end held))
+frame-hands-over : (opening count : ℕ) (held lent : List ℕ) → min count heldMax ≤ length held
+    → (let t : Told Message = gives (closed opening count held) in HandsOver held lent (retold header t) t)
 unfolding judged
-end-delivers UsedUp held lent l = (tt, refl)
-end-delivers (Closed opening count) held lent l = go (sized opening (count + 2)) (proper (take count held)) (agrees (take count held)) refl
+frame-hands-over opening count held lent l = go (sized opening (count + 2)) (proper (take count held)) (agrees (take count held)) refl
   where
     m : Message
     m = messageOf opening (take count held)
 
     go : (f p a : Bool) → sized opening (count + 2) ≡ f
-        → DeliversTo held lent (gives (need f (damage 3 (count + 2)) (need p (damage 21 (count + 2)) (need a (damage 6 (count + 2)) (message m)))))
-    go false p a f = (tt, refl)
-    go true false a f = (tt, refl)
-    go true true false f = (tt, refl)
+        → (let t : Told Message = gives (need f (damage 3 (count + 2)) (need p (damage 21 (count + 2)) (need a (damage 6 (count + 2)) (message m)))) in HandsOver held lent (retold header t) t)
+    go false p a f = (tt, (tt, refl))
+    go true false a f = (tt, (tt, refl))
+    go true true false f = (tt, (tt, refl))
     go true true true f =
         let n : length (m .payload) ≡ count - 5 = held-length opening count held l f in
-        delivers-held header (λ m. m .payload) (λ h. h .len) 37 3 held lent m (omega (arith, n, sized-bounds opening count f .1))
-        (ap (λ (k : ℕ). take k (drop 3 held)) n ∙ sym (held-bytes opening count held l f))
+        let b = sized-bounds opening count f in (
+          omega (arith, n, b .0, all-there opening count held l f),
+          delivers-held header (λ m. m .payload) (λ h. h .len) 37 3 held lent m (omega (arith, n, b .1))
+              (ap (λ (k : ℕ). take k (drop 3 held)) n ∙ sym (held-bytes opening count held l f)),
+        )
 
-pub delivers : (end : End) (held lent : List ℕ) (a : Answer) → Fits end → length held ≡ heldMax → JudgedAs (eventOf end held) a
-    → Small a × (given a held lent ≡ delivered (λ (m : Message). m .payload) (outcome (eventOf end held)) lent)
-delivers end held lent a f l e =
-    delivers-told header (λ m. m .payload) (λ h. h .len) 37 3 held lent (told a) (outcome (eventOf end held)) e (end-delivers end held lent l)
+-- as an answer tells it
+abbrev pub AnswerDelivers : List ℕ → List ℕ → Answer → Option (Event Message) → Type 0
+AnswerDelivers held lent a e = Small a × There a held × (given a held lent ≡ delivered (λ (m : Message). m .payload) (outcome e) lent)
+
+answers : (held lent : List ℕ) (a : Answer) (e : Option (Event Message)) → JudgedAs e a → HandsOver held lent (retold header (outcome e)) (outcome e) → AnswerDelivers held lent a e
+answers held lent a e j h =
+    let x = subst (λ (t : Told Header). HandsOver held lent t (outcome e)) (sym j) h in
+    (x .1 .0, x .0, x .1 .1)
+
+pub frame-delivers : (opening count : ℕ) (held lent : List ℕ) (a : Answer) → min count heldMax ≤ length held → JudgedAs (some (closed opening count held)) a
+    → AnswerDelivers held lent a (some (closed opening count held))
+frame-delivers opening count held lent a l j = answers held lent a (some (closed opening count held)) j (frame-hands-over opening count held lent l)
+
+pub end-delivers : (end : End) (held lent : List ℕ) (a : Answer) → length held ≡ heldMax → JudgedAs (eventOf end held) a → AnswerDelivers held lent a (eventOf end held)
+end-delivers UsedUp held lent a l j = answers held lent a none j (tt, (tt, refl))
+end-delivers (Closed opening count) held lent a l j = frame-delivers opening count held lent a (omega arith) j

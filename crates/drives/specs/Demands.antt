@@ -11,15 +11,19 @@ use Rattle.stream.specs.Event.{damage}
 use Rattle.stream.specs.Call.{seenBy}
 use Rattle.stream.specs.Family.{Family}
 use Rattle.stream.specs.Demands.{Demands, EndsWith}
+use Rattle.stream.specs.Slice.{SliceReader}
+use Rattle.stream.specs.Slice as Slice
 use Rattle.stream.specs.Storm.{AfterStorm, Swallowed}
 use Rattle.stream.specs.Storm as Storm
 use Rattle.drives.specs.Wire.{Message, Takes, opens, wire}
 use Rattle.drives.specs.Rules.{judge, rule}
 use Rattle.drives.specs.Machine.{fresh}
 use Rattle.drives.specs.Reader.{join, shown, IsStep, whole}
+use Rattle.drives.specs.Slice.{knownAt, shown as shownAt, IsAnswerAt}
 use Rattle.drives.specs.Writer.{IsWritten}
 use Rattle.drives.specs.declared.reader.Reader.{Reader}
 use Rattle.drives.specs.declared.reader.Step.{Step}
+use Rattle.drives.specs.declared.slice.Found.{Found}
 
 abbrev pub drives : Family
 drives = record {
@@ -43,6 +47,20 @@ drives = record {
 -- WHAT IS DEMANDED OF DRIVES: demands 1 to 3 of document 01, each a field of `Demands`, over the rule, the writer and the reader above
 abbrev pub Demanded : Type 0
 Demanded = Demands drives
+
+-- its reader of slices (document 02, Req 10), to its host: nothing is known of the bytes before a place
+abbrev pub slices : SliceReader drives
+slices = record {
+  knownAt = knownAt;
+  handedFirst = λ known. [];
+  Found = Found;
+  Answers = IsAnswerAt;
+  seen = Slice.seenBy join shownAt;
+}
+
+-- A SLICE IS ANSWERED AS A FRESH STREAMING READER ANSWERS IT, asked from any place on and from place to place
+abbrev pub SlicesAsStreams : Type 0
+SlicesAsStreams = Slice.SlicesAsStreams drives slices
 
 -- ---- its own
 

@@ -20,7 +20,7 @@ ghost use Rattle.drives.specs.Wire.{opens, isHex, allHex, isLetter, prop
 ghost use Rattle.drives.specs.Rules.{sized, agrees};
 ghost use Rattle.drives.specs.Machine.{heldMax, countMax, advanceOf, inRange, closed};
 ghost use Rattle.drives.specs.Reader.{IsFresh, IsStep, IsStepInPlace};
-ghost use Rattle.drives.specs.Inside.{Filled, Fits, Runs, eventOf, JudgedAs, Small, given};
+ghost use Rattle.drives.specs.Inside.{Filled, Fits, Runs, eventOf, JudgedAs, Small, There, given};
 ghost use Rattle.drives.specs.declared.reader.Answer.the-variants.{Damaged};
 
 // The limits, named here because the reader's own constants cannot size its own array. Opening byte, station and letter come before the data.
@@ -103,7 +103,7 @@ pub struct StepInPlace {
 const LOOKING: u8 = 0;
 
 // The number of characters that stands for itself or more: with opening byte and EOT it is 65,535, the most that is told as lost.
-const COUNT_MAX: usize = 65535 - UNHELD;
+pub(crate) const COUNT_MAX: usize = 65535 - UNHELD;
 
 // What opens a request, a reply and an error reply, and what ends each.
 const ENQ: u8 = 0x05;
@@ -297,7 +297,7 @@ fn sized(opening: u8, n: usize) -> bool
 
 // Whether each of the first `count` held characters is in its set.
 fn proper(count: usize, held: &[u8]) -> bool
-    requires { ⌜ (5 ≤ count) × (count ≤ heldMax) × (length (now held) ≡ heldMax) ⌝ }
+    requires { ⌜ (5 ≤ count) × (count ≤ length (now held)) ⌝ }
     ensures { λ r. ⌜ r ≡ proper (take count (now (held .entry))) ⌝ }
 {
     let rest = all_hex(&held[PAYLOAD_AT..count]);
@@ -327,7 +327,7 @@ pub(crate) fn digit(n: u8) -> u8
 
 // Whether the last two of the first `count` held characters are the sum of those before them.
 fn agrees(count: usize, held: &[u8]) -> bool
-    requires { ⌜ (5 ≤ count) × (count ≤ heldMax) × (length (now held) ≡ heldMax) ⌝ }
+    requires { ⌜ (5 ≤ count) × (count ≤ length (now held)) ⌝ }
     ensures { λ r. ⌜ r ≡ agrees (take count (now (held .entry))) ⌝ }
 {
     let k = count - SUM;
@@ -344,9 +344,9 @@ fn damaged(what: Damage, count: usize) -> Answer
     Answer::Damaged { what, lost }
 }
 
-// The checks of a frame in order, by its opening byte and the `count` characters behind it.
-fn judge_frame(opening: u8, count: usize, held: &[u8]) -> Answer
-    requires { ⌜ (count ≤ countMax) × (length (now held) ≡ heldMax) ⌝ }
+// The checks of a frame in order, by its opening byte and the `count` characters behind it. Of those there need be no more than a message may have.
+pub(crate) fn judge_frame(opening: u8, count: usize, held: &[u8]) -> Answer
+    requires { ⌜ (count ≤ countMax) × (min count heldMax ≤ length (now held)) ⌝ }
     ensures { λ r. ⌜ JudgedAs (some (closed opening count (now (held .entry)))) r ⌝ }
 {
     if !sized(opening, count + UNHELD) {
@@ -380,8 +380,8 @@ fn judge(end: End, held: &[u8]) -> Answer
 }
 
 // A message's data go to the front of the lent buffer.
-fn deliver(answer: Answer, held: &[u8], lent: &mut [u8])
-    requires { ⌜ Small answer × (length (now held) ≡ heldMax) × (lentLeast ≤ length (now lent)) ⌝ }
+pub(crate) fn deliver(answer: Answer, held: &[u8], lent: &mut [u8])
+    requires { ⌜ Small answer × There answer (now held) × (lentLeast ≤ length (now lent)) ⌝ }
     ensures { λ _. ⌜ now (lent .exit) ≡ given answer (now (held .entry)) (now (lent .entry)) ⌝ }
 {
     match answer {

@@ -1,11 +1,11 @@
 -- `reader::deliver`: the part of the held bytes that is the data goes to the front of the buffer.
 -- Assumes nothing.
-use lib.ListN.{length-take, length-drop}
+use lib.ListN.{length, length-take, length-drop}
 use Rattle.stream.proofs.ListLaws.{part-front}
-use Rattle.drives.specs.Inside.{Small, given}
+use Rattle.drives.specs.Inside.{Small, There, given}
 use Rattle.drives.specs.declared.reader.Answer.{Answer}
 use native.Mathlib.Omega.{arith}
-use Prim.Native.Nat.{_≤_}
+use Prim.Native.Nat.{_+_, _≤_}
 use mathlib.Core.Path.{sym, _∙_, ap, subst}
 use borrow.Author.Needs.{needs}
 use Rattle.drives.proofs.reader.deliver.Statement.{statement}
@@ -13,6 +13,9 @@ use Rattle.drives.proofs.reader.deliver.Tie as tie
 
 small-at : (c : tie.After-answer) → c .answer .given .0 .0 .len ≤ 37
 small-at c = subst Small (c .answer .given .1) (c .before .before .before .before .pre .0)
+
+there-at : (c : tie.After-answer) → 3 + c .answer .given .0 .0 .len ≤ length (c .before .before .before .before .args .held .now)
+there-at c = subst (λ (x : Answer). There x (c .before .before .before .before .args .held .now)) (c .answer .given .1) (c .before .before .before .before .pre .1)
 
 enum-known-answer : tie.Need-enum-known-answer
 enum-known-answer c = search needs
@@ -27,7 +30,7 @@ part-copy-start : tie.Need-part-copy-start
 part-copy-start c = search needs
 
 part-copy-end : tie.Need-part-copy-end
-part-copy-end c = omega (arith, small-at (c .before))
+part-copy-end c = omega (arith, there-at (c .before))
 
 copy-requires : tie.Need-copy-requires
 copy-requires c κs = simp (length-take, length-drop) (omega (arith, small-at (c .before .before .before)))

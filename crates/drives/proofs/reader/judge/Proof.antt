@@ -6,6 +6,7 @@ use Rattle.drives.specs.Machine.{countMax}
 use Rattle.drives.specs.Reader.{header}
 use Rattle.drives.specs.Inside.{Fits, eventOf}
 use Rattle.drives.specs.declared.reader.End.{End}
+use native.Mathlib.Omega.{arith}
 use Prim.Native.Nat.{_≤_}
 use mathlib.Core.Path.{sym, _∙_, ap, subst}
 use borrow.Author.Needs.{needs}
@@ -22,7 +23,7 @@ judge-frame-requires : tie.Need-judge-frame-requires
 judge-frame-requires c κs =
     let p = c .before .before .before .before .pre in
     let fits : c .before .end .given .0 .1 .0 ≤ countMax = subst Fits (c .before .end .given .1) (p .0) in
-    (fits, p .1)
+    (fits, omega (arith, p .1))
 
 returns : tie.Need-returns
 returns c = ap (λ (e : End). retold header (outcome (eventOf e (c .before .before .before .args .held .now)))) (sym (c .enum-told .given .1))

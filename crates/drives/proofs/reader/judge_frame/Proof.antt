@@ -3,15 +3,14 @@
 use borrow.Author.Tests.{not-true, not-false}
 use Rattle.drives.specs.Wire.{proper}
 use Rattle.drives.specs.Rules.{sized}
-use Rattle.drives.specs.Machine.{heldMax}
 use Rattle.drives.specs.Reader.{told}
 use Rattle.drives.proofs.FrameLimits.{sized-bounds}
-use Rattle.drives.proofs.JudgedIsDelivered.{judged-length, judged-character, judged-sum, judged-message}
+use Rattle.drives.proofs.JudgedIsDelivered.{all-there, judged-length, judged-character, judged-sum, judged-message}
 use native.Mathlib.Omega.{arith}
 use Prim.Native.Nat.{_+_, _≤_}
 use mathlib.Core.Path.{_≡_, sym, _∙_, ap}
 use mathlib.Core.Bool.{true}
-use lib.ListN.{take}
+use lib.ListN.{length, take}
 use borrow.Author.Needs.{needs}
 use Rattle.drives.proofs.reader.judge_frame.Statement.{statement}
 use Rattle.drives.proofs.reader.judge_frame.Tie as tie
@@ -26,8 +25,10 @@ fits c = sym (c .before .sized .ensures) ∙ not-false _ (c .if1 .left)
 in-sets : (c : tie.Else2) → proper (take (start (c .before .before) .args .count) (start (c .before .before) .args .held .now)) ≡ true
 in-sets c = sym (c .before .proper .ensures) ∙ not-false _ (c .if2 .left)
 
-bounds : (c : tie.Else1) → (5 ≤ start c .args .count) × (start c .args .count ≤ heldMax)
-bounds c = sized-bounds (start c .args .opening) (start c .args .count) (fits c)
+bounds : (c : tie.Else1) → (5 ≤ start c .args .count) × (start c .args .count ≤ length (start c .args .held .now))
+bounds c =
+    let a = start c .args in
+    (sized-bounds (a .opening) (a .count) (fits c) .0, all-there (a .opening) (a .count) (a .held .now) (start c .pre .1) (fits c))
 
 add-sized : tie.Need-add-sized
 add-sized c = search needs
@@ -46,9 +47,7 @@ returns d =
     ∙ judged-length (a .opening) (a .count) (a .held .now) (sym (c .before .sized .ensures) ∙ not-true _ (c .if1 .taken))
 
 proper-requires : tie.Need-proper-requires
-proper-requires c κs =
-    let b = bounds c in
-    (b .0, b .1, start c .pre .1)
+proper-requires c κs = bounds c
 
 damaged-requires-2 : tie.Need-damaged-requires-2
 damaged-requires-2 c κs = search needs
@@ -62,10 +61,7 @@ returns-2 d =
     ∙ judged-character (a .opening) (a .count) (a .held .now) (fits k) (sym (c .before .proper .ensures) ∙ not-true _ (c .if2 .taken))
 
 agrees-requires : tie.Need-agrees-requires
-agrees-requires c κs =
-    let k = c .before .before in
-    let b = bounds k in
-    (b .0, b .1, start k .pre .1)
+agrees-requires c κs = bounds (c .before .before)
 
 damaged-requires-3 : tie.Need-damaged-requires-3
 damaged-requires-3 c κs = search needs
@@ -80,13 +76,19 @@ returns-3 d =
     ∙ judged-sum (a .opening) (a .count) (a .held .now) (fits k) (in-sets j) (sym (c .before .agrees .ensures) ∙ not-true _ (c .if3 .taken))
 
 shared-slice-read-t12 : tie.Need-shared-slice-read-t12
-shared-slice-read-t12 c = search needs
+shared-slice-read-t12 c =
+    let b = bounds (c .before .before .before .before .before) in
+    omega arith
 
 shared-slice-read-t14 : tie.Need-shared-slice-read-t14
-shared-slice-read-t14 c = search needs
+shared-slice-read-t14 c =
+    let b = bounds (c .before .before .before .before .before .before) in
+    omega arith
 
 shared-slice-read-t16 : tie.Need-shared-slice-read-t16
-shared-slice-read-t16 c = search needs
+shared-slice-read-t16 c =
+    let b = bounds (c .before .before .before .before .before .before .before) in
+    omega arith
 
 add-t6 : tie.Need-add-t6
 add-t6 c = search needs
