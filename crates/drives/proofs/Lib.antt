@@ -7,6 +7,7 @@ pub mod FillScans
 pub mod JudgedIsDelivered
 pub mod WriterWritesFrame
 pub mod MachineFollowsRule
+pub mod RuleInSlice
 pub mod AcceptedIsWritten
 pub mod ResultsExist
 pub mod WrittenIsRead

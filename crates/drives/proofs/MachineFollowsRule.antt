@@ -43,7 +43,7 @@ too-long : (o n : ℕ) → heldMax + 2 < n → sized o n ≡ false
 unfolding sized
 too-long o n lt = rw (le-leb frameLeast n (omega arith), lt-leb n (frameMost o) (omega (arith, longest o)))
 
-judged-too-long : (o n : ℕ) (a b : List ℕ) → heldMax + 2 < n → judged o n a ≡ judged o n b
+pub judged-too-long : (o n : ℕ) (a b : List ℕ) → heldMax + 2 < n → judged o n a ≡ judged o n b
 unfolding judged
 judged-too-long o n a b lt = rw (too-long o n lt)
 
