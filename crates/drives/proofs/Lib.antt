@@ -14,6 +14,7 @@ pub mod WrittenIsRead
 pub mod FamilyFacts
 pub mod LostAreLast
 pub mod Demands
+pub mod SlicesAsStreams
 pub mod AfterStorm
 pub mod Cases
 pub mod One

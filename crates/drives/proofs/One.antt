@@ -8,14 +8,19 @@ use Rattle.answers.specs.declared.Written.{Written}
 use Rattle.answers.proofs.NumbersHaveCases.{refusals, damages, written-alike}
 use Rattle.stream.specs.Event.{message, damage, Told, done, gives, refuses}
 use Rattle.stream.specs.Call.{Seen}
+use Rattle.stream.specs.Slice.{Asked}
 use Rattle.stream.proofs.PromiseOfStep.{steps-one}
+use Rattle.stream.proofs.SlicesAsStreams.{answers-one}
+use Rattle.drives.specs.Rules.{rule}
 use Rattle.drives.specs.Machine.{holding, next}
 use Rattle.drives.specs.Reader.{inRange, whole, header, told, shown, together, IsFresh, IsStep, IsStepInPlace}
+use Rattle.drives.specs.Slice.{knownAt, shown as shownAt, IsAnswerAt}
 use Rattle.drives.specs.Writer.{IsWritten}
 use Rattle.drives.specs.declared.reader.Reader.{Reader}
 use Rattle.drives.specs.declared.reader.Header.{Header}
 use Rattle.drives.specs.declared.reader.Step.{Step}
 use Rattle.drives.specs.declared.reader.StepInPlace.{StepInPlace}
+use Rattle.drives.specs.declared.slice.Found.{Found}
 use Rattle.drives.specs.declared.reader.Answer.{Answer}
 use Rattle.drives.specs.declared.reader.Answer.the-variants.{Done, Message as Read, Damaged, Refused}
 
@@ -65,6 +70,18 @@ step-in-place-one stage count held piece lent x y a b q r f g =
     let one = steps-one next whole header (λ m. m .payload) shown (holding stage count held) piece lent a b (together x q) (together y r) f g in
     let same = shown-alike (together x q) (together y r) (one .0) in
     (ap apart same, ap (λ (s : Step). s .reader .held) same, one .1)
+
+-- an answer with its place that is shown alike is one
+found-alike : (q r : Found) → shownAt q ≡ shownAt r → q ≡ r
+found-alike q r e =
+    let answer = told-alike (q .answer) (r .answer) (ap (λ (v : Asked Header). v .told) e) in
+    let place = ap (λ (v : Asked Header). v .place) e in
+    ap {B = Found} (λ a. record { answer = a; place = q .place }) answer ∙ ap {B = Found} (λ (n : ℕ). record { answer = r .answer; place = n }) place
+
+pub answer-at-one : (slice lent a b : List ℕ) (place : ℕ) (q r : Found) → IsAnswerAt slice place lent q a → IsAnswerAt slice place lent r b → (q ≡ r) × (a ≡ b)
+answer-at-one slice lent a b place q r x y =
+    let one = answers-one rule knownAt header (λ m. m .payload) shownAt slice lent a b place q r x y in
+    (found-alike q r (one .0), one .1)
 
 pub write-one : (opening first second letter : ℕ) (payload lent a b : List ℕ) (v w : Written)
     → IsWritten opening first second letter payload lent v a → IsWritten opening first second letter payload lent w b → (v ≡ w) × (a ≡ b)
