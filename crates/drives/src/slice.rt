@@ -42,7 +42,7 @@ fn opening_from(slice: &[u8], from: usize) -> usize
     i
 }
 
-// The index of the first EOT from `from` on, or one past all bytes.
+// The index of the first EOT from `from` on; without one, an index past all bytes.
 fn eot_from(slice: &[u8], from: usize) -> usize
     ensures { λ r. ⌜ EotFrom (now (slice .entry)) from r ⌝ }
 {
@@ -56,8 +56,8 @@ fn eot_from(slice: &[u8], from: usize) -> usize
     i
 }
 
-// Judges a frame by its opening byte and the characters between that and its EOT, and delivers its data. They are counted as a reader counts them: no
-// more of them are told as lost.
+// Judges a frame by its opening byte and the characters between that and its EOT, and delivers its data. The characters are counted as a reader
+// counts them: a slice has room for one frame of 65,536 bytes, of which 65,535 are told as lost.
 fn read_frame(opening: u8, came: &[u8], lent: &mut [u8]) -> Answer
     requires { ⌜ lentLeast ≤ length (now lent) ⌝ }
     ensures { λ r. ⌜ FrameRead opening (now (came .entry)) (now (lent .entry)) r (now (lent .exit)) ⌝ }

@@ -78,7 +78,7 @@ returns c =
     let k = c .before in
     let a = begun k .args in
     by-nothing (a .slice .now) (a .lent .now) (a .place)
-    (nothing-found (a .slice .now) (a .place) (first k) (end k) (k .before .opening-from .ensures) (k .eot-from .ensures) (c .if1 .taken))
+    (nothing-found (a .slice .now) (a .place) (first k) (end k) (k .before .opening-from .ensures) (k .eot-from .ensures) (omega arith))
 
 shared-slice-read-read-frame : tie.Need-shared-slice-read-read-frame
 shared-slice-read-read-frame c = search needs
@@ -112,7 +112,7 @@ returns-2 c =
     let ending = k .eot-from .ensures in
     by-frame s (between s (a .place) (first k) (end k) opening ending) (a .lent .now) _ (a .place) (end k) (getD s (first k) 0) (d .read-frame .result)
     (omega (arith, opening .forward, ending .forward))
-    (frame-found s (a .place) (first k) (end k) opening ending (e .if1 .left))
+    (frame-found s (a .place) (first k) (end k) opening ending (omega arith))
     (d .read-frame .ensures)
 
 pub answer-from-spec : {M : Type 1} → statement M

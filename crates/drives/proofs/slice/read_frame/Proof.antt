@@ -4,13 +4,14 @@ use mathlib.Core.Option.{some}
 use Rattle.stream.specs.Event.{Event}
 use Rattle.drives.specs.Wire.{Message}
 use Rattle.drives.specs.Rules.{judge}
-use Rattle.drives.specs.Machine.{closed}
+use Rattle.drives.specs.Machine.{countMax, closed}
 use Rattle.drives.specs.Inside.{JudgedAs}
 use Rattle.drives.proofs.JudgedIsDelivered.{AnswerDelivers, frame-delivers}
 use Rattle.drives.proofs.RuleInSlice.{whole-judged}
 use native.Mathlib.Omega.{arith}
-use Prim.Native.Nat.{ℕ}
+use Prim.Native.Nat.{ℕ, min}
 use mathlib.Core.Path.{_≡_, _∙_, ap, subst}
+use lib.ListN.{length}
 use borrow.Author.Needs.{needs}
 use Rattle.drives.proofs.slice.read_frame.Statement.{statement}
 use Rattle.drives.proofs.slice.read_frame.Tie as tie
@@ -22,7 +23,8 @@ begun c = c .before .before .before .before
 comes-to : (c : tie.After-judge-frame) → closed (begun c .args .opening) (c .before .least .result) (begun c .args .came .now) ≡ judge (begun c .args .opening) (begun c .args .came .now)
 comes-to c =
     let a = begun c .args in
-    ap (λ (n : ℕ). closed (a .opening) n (a .came .now)) (c .before .least .ensures) ∙ whole-judged (a .opening) (a .came .now)
+    let counted : c .before .least .result ≡ min (length (a .came .now)) countMax = omega (arith, c .before .least .ensures) in
+    ap (λ (n : ℕ). closed (a .opening) n (a .came .now)) counted ∙ whole-judged (a .opening) (a .came .now)
 
 handed : (c : tie.After-judge-frame) → AnswerDelivers (begun c .args .came .now) (begun c .args .lent .now) (c .judge-frame .result) (some (judge (begun c .args .opening) (begun c .args .came .now)))
 handed c =
