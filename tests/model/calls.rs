@@ -10,14 +10,17 @@ use crate::listing_calls::{
     random_port, random_word, word_sweep,
 };
 use crate::random::Random;
+use crate::slice_calls::{few_calls, too_long};
 use crate::streams::{self, Family, FAMILIES};
+use crate::SLICES;
 use right::{number, packet, probe};
 
 /// The generators of a session's last call, where that one has no result, by the program.
-const END_EARLY: [&str; 3] = [
+const END_EARLY: [&str; 4] = [
     "session of the readers that ends early",
     "session of the listing that ends early",
     "session of the other calls that ends early",
+    "session of the slices that ends early",
 ];
 
 pub struct Call {
@@ -58,6 +61,10 @@ impl Making {
 
     pub fn w(self, word: u16) -> Making {
         self.raw(&word.to_le_bytes())
+    }
+
+    pub fn d(self, number: u32) -> Making {
+        self.raw(&number.to_le_bytes())
     }
 
     pub fn q(self, number: u64) -> Making {
@@ -1236,6 +1243,10 @@ pub fn random_calls(random: &mut Random, count: usize) -> Vec<Call> {
 
 /// A random call of one of the programs.
 fn call_of(program: usize, random: &mut Random) -> Vec<u8> {
+    if program == SLICES {
+        let mut calls = few_calls(random);
+        return calls.swap_remove(random.below(calls.len())).bytes;
+    }
     loop {
         let call = random_calls(random, 1).remove(0);
         if call.program() == program {
@@ -1246,8 +1257,10 @@ fn call_of(program: usize, random: &mut Random) -> Vec<u8> {
 
 /// A call of one of the programs with more bytes than a list may have.
 fn too_long_a_list(program: usize, random: &mut Random) -> Vec<u8> {
-    if program == 0 {
-        return too_many_held(random).bytes;
+    match program {
+        0 => return too_many_held(random).bytes,
+        SLICES => return too_long(random).bytes,
+        _ => {}
     }
     let length = random.pick(&[16_385, 16_386, 32_768, 65_535]);
     op([0x07, 0x81, 0x71][program]).list(&random.bytes(length)).bytes
@@ -1260,9 +1273,9 @@ pub fn broken_ending(program: usize, random: &mut Random) -> Call {
     let broken = match random.between(0, 3) {
         0 => vec![random.pick(&[
             0x00, 0x0D, 0x10, 0x15, 0x25, 0x30, 0x38, 0x43, 0x50, 0x57, 0x63, 0x70, 0x76, 0x80,
-            0x82, 0x8E, 0xFF,
+            0x82, 0x8E, 0x90, 0x97, 0xFF,
         ])],
-        1 => call_of((program + random.between(1, 2)) % 3, random),
+        1 => call_of((program + random.between(1, 3)) % 4, random),
         2 => too_long_a_list(program, random),
         _ => {
             let mut whole = call_of(program, random);

@@ -6,10 +6,13 @@ mod fields;
 mod in_place_calls;
 mod known;
 mod known_drives;
+mod known_slices;
 mod known_storms;
 mod listing_calls;
 mod programs;
 mod random;
+mod slice_answers;
+mod slice_calls;
 mod storms;
 mod streams;
 mod two_ways;
@@ -17,6 +20,7 @@ mod two_ways;
 use calls::Call;
 use programs::Program;
 use random::Random;
+use slice_calls::Asked;
 use std::panic::catch_unwind;
 use std::process::ExitCode;
 use std::sync::atomic::{AtomicBool, AtomicUsize, Ordering};
@@ -32,19 +36,23 @@ pub struct Model {
 
 /// The programs that make calls, as `probe::program_of` counts them: what may name another command
 /// for each, and where it is.
-const PROBES: [(&str, &str); 3] = [
+const PROBES: [(&str, &str); 4] = [
     ("PROBE_READERS", "bin/test_probe_readers"),
     ("PROBE_LISTING", "bin/test_probe_listing"),
     ("PROBE_CALLS", "bin/test_probe_calls"),
+    ("PROBE_SLICES", "bin/test_probe_slices"),
 ];
 
 /// The first of them, which makes the calls of the readers of one family.
 const READERS: usize = 0;
+/// The last of them, which makes those of the readers of a slice.
+pub const SLICES: usize = 3;
 
 /// How much of what is run.
 struct Amount {
     random_sessions: usize,
     storm_sessions: usize,
+    slice_sessions: usize,
     listings: usize,
     storm_listings: usize,
     full_listings: usize,
@@ -53,6 +61,7 @@ struct Amount {
 const DEFAULT: Amount = Amount {
     random_sessions: 50,
     storm_sessions: 20,
+    slice_sessions: 12,
     listings: 1000,
     storm_listings: 100,
     full_listings: 6,
@@ -60,6 +69,7 @@ const DEFAULT: Amount = Amount {
 const LONG: Amount = Amount {
     random_sessions: 1000,
     storm_sessions: 400,
+    slice_sessions: 240,
     listings: 12_000,
     storm_listings: 2000,
     full_listings: 24,
@@ -71,12 +81,15 @@ const STREAMS_IN_TWO_WAYS: u64 = 300;
 #[derive(Clone, Copy)]
 enum Job {
     KnownCalls,
+    KnownSlices,
     KnownListings,
     TwoWays(usize),
     Sweep(usize),
     RandomSession(usize),
     BrokenSession(usize),
     StormSession(usize),
+    SliceSweep(usize),
+    SliceSession(usize),
     Listings(usize),
     StormListings(usize),
     FullListing(usize),
@@ -85,7 +98,7 @@ enum Job {
 /// What a run was asked for.
 struct Run {
     model: Model,
-    probes: [Program; 3],
+    probes: [Program; 4],
     sbrlist: Program,
     seed: u64,
     at_once: usize,
@@ -145,6 +158,7 @@ fn asked_for(model: Model, mut arguments: impl Iterator<Item = String>) -> Resul
                     Program::Model(|input| right::probe::session(0, input)),
                     Program::Model(|input| right::probe::session(1, input)),
                     Program::Model(|input| right::probe::session(2, input)),
+                    Program::Model(|input| right::probe::session(3, input)),
                 ];
                 run.sbrlist = Program::Model(right::listing::listing);
                 run.at_once = 1;
@@ -166,10 +180,11 @@ fn jobs(run: &Run, sweeps: usize) -> Vec<Job> {
     let mut jobs = Vec::new();
     jobs.extend((0..4).map(Job::BrokenSession));
     jobs.extend((0..sweeps).map(Job::Sweep));
+    jobs.extend((0..slice_calls::SWEEPS).map(Job::SliceSweep));
     let amount = &run.amount;
     let listing_jobs = amount.listings / LISTINGS_IN_A_JOB;
     let storm_listing_jobs = amount.storm_listings / LISTINGS_IN_A_JOB;
-    let sessions = amount.random_sessions.max(amount.storm_sessions);
+    let sessions = amount.random_sessions.max(amount.storm_sessions).max(amount.slice_sessions);
     let listings = listing_jobs.max(storm_listing_jobs).max(amount.full_listings);
     for order in 0..sessions.max(listings) {
         if order < listing_jobs {
@@ -182,6 +197,9 @@ fn jobs(run: &Run, sweeps: usize) -> Vec<Job> {
         if order < amount.storm_sessions {
             jobs.push(Job::StormSession(order));
         }
+        if order < amount.slice_sessions {
+            jobs.push(Job::SliceSession(order));
+        }
         if order < storm_listing_jobs {
             jobs.push(Job::StormListings(order));
         }
@@ -190,8 +208,8 @@ fn jobs(run: &Run, sweeps: usize) -> Vec<Job> {
         }
     }
     let two_ways = (0..=streams::FAMILIES.len()).map(Job::TwoWays);
-    let known: Vec<Job> =
-        [Job::KnownCalls, Job::KnownListings].into_iter().chain(two_ways).collect();
+    let known = [Job::KnownCalls, Job::KnownSlices, Job::KnownListings];
+    let known: Vec<Job> = known.into_iter().chain(two_ways).collect();
     let mut jobs = match run.sbrlist {
         Program::Model(_) => [jobs, known].concat(),
         Program::Command(_) => [known, jobs].concat(),
@@ -234,6 +252,7 @@ fn first_disagreement(run: &Run, counts: &Counts) -> Option<String> {
 fn do_job(run: &Run, job: Job, sweeps: &[&[Call]], counts: &Counts) -> Result<(), String> {
     match job {
         Job::KnownCalls => known_calls(run, counts),
+        Job::KnownSlices => known_slices(run, counts),
         Job::KnownListings => known_listings(run, counts),
         Job::TwoWays(which) => two_ways(run, which),
         Job::Sweep(case) => compare_session(run, &format!("sweep {case}"), sweeps[case], counts),
@@ -245,10 +264,20 @@ fn do_job(run: &Run, job: Job, sweeps: &[&[Call]], counts: &Counts) -> Result<()
         Job::BrokenSession(case) => {
             let mut random = Random::of(run.seed, 2, case as u64);
             let mut calls = calls::random_calls(&mut random, 5);
+            calls.extend(slice_calls::few_calls(&mut random));
             calls.push(calls::broken_ending(case % PROBES.len(), &mut random));
             compare_session(run, &format!("broken session {case}"), &calls, counts)
         }
         Job::StormSession(case) => storm_session(run, case, counts),
+        Job::SliceSweep(which) => {
+            let mut random = Random::of(run.seed, 12, which as u64);
+            let asked = slice_calls::sweep(which, &mut random);
+            slice_session(run, &format!("slices, sweep {which}"), &asked, counts)
+        }
+        Job::SliceSession(case) => {
+            let asked = slice_calls::random_slices(&mut Random::of(run.seed, 13, case as u64));
+            slice_session(run, &format!("slices {case}"), &asked, counts)
+        }
         Job::Listings(job) => (0..LISTINGS_IN_A_JOB).try_for_each(|order| {
             let case = job * LISTINGS_IN_A_JOB + order;
             let input = streams::listing_input(&mut Random::of(run.seed, 3, case as u64));
@@ -354,6 +383,21 @@ fn storm_session(run: &Run, case: usize, counts: &Counts) -> Result<(), String> 
     compare_session(run, &format!("{name}, all ports"), &of_all_ports, counts)
 }
 
+/// What is asked of the answers about a slice is asked of what the program answered.
+fn slice_session(run: &Run, name: &str, asked: &[Asked], counts: &Counts) -> Result<(), String> {
+    let calls: Vec<(usize, &Call)> =
+        asked.iter().flat_map(|asked| &asked.calls).enumerate().collect();
+    let mut results = compare_calls(run, SLICES, name, &calls, counts)?.into_iter();
+    for asked in asked {
+        let own: Vec<Vec<u8>> = results.by_ref().take(asked.calls.len()).collect();
+        if let Some(wrong) = slice_answers::wrong(asked, &own) {
+            let generator = asked.calls[0].generator;
+            return Err(format!("case {name}, generator \"{generator}, streamed\"\n  {wrong}"));
+        }
+    }
+    Ok(())
+}
+
 /// Each call is made by the program that its opcode names, and keeps its place in the report.
 fn compare_session(run: &Run, case: &str, calls: &[Call], counts: &Counts) -> Result<(), String> {
     (0..PROBES.len()).try_for_each(|program| {
@@ -395,7 +439,11 @@ fn compare_calls(
         if expected.get(at) != given.get(at) {
             let bytes = calls.get(at).map_or(&[][..], |(_, call)| &call.bytes);
             let report = both_results(bytes, expected.get(at), given.get(at));
-            return Err(format!("{}\n{report}", label(at)));
+            let slice = match slice_before(calls, at) {
+                [] => String::new(),
+                slice => format!("  the slice is set by: {}\n", shown(slice)),
+            };
+            return Err(format!("{}\n{slice}{report}", label(at)));
         }
         counts.calls.fetch_add(1, Ordering::Relaxed);
     }
@@ -413,9 +461,20 @@ fn model_stopped(
     calls: &[(usize, &Call)],
     wrong: &str,
 ) -> String {
-    let stops = |(_, call): &&(usize, &Call)| model_session(run, program, &call.bytes).is_err();
-    let generator = calls.iter().find(stops).map_or("", |(_, call)| call.generator);
+    let stops = |&at: &usize| {
+        let alone = [slice_before(calls, at), &calls[at].1.bytes].concat();
+        model_session(run, program, &alone).is_err()
+    };
+    let generator = (0..calls.len()).find(stops).map_or("", |at| calls[at].1.generator);
     format!("case {case}, generator \"{generator}\": {wrong}")
+}
+
+/// The last call before this one that sets a slice, without which an ask is another; nothing for
+/// the calls of the other programs.
+fn slice_before<'a>(calls: &[(usize, &'a Call)], at: usize) -> &'a [u8] {
+    let before = calls.iter().take(at).rev();
+    let setting = before.map(|(_, call)| &call.bytes).find(|bytes| bytes.first() == Some(&0x91));
+    setting.map_or(&[], |bytes| bytes)
 }
 
 fn both_results(call: &[u8], expected: Option<&&[u8]>, given: Option<&&[u8]>) -> String {
@@ -425,8 +484,7 @@ fn both_results(call: &[u8], expected: Option<&&[u8]>, given: Option<&&[u8]>) ->
         None => "no result".to_string(),
     };
     let (model, program) = (words(expected), words(given));
-    let mut report =
-        format!("  call: {}\n  model: {model}\n  program: {program}", fields::hex(call));
+    let mut report = format!("  call: {}\n  model: {model}\n  program: {program}", shown(call));
     if let (Some(expected), Some(given)) = (expected, given) {
         let same =
             expected.iter().zip(given.iter()).take_while(|(one, other)| one == other).count();
@@ -436,25 +494,44 @@ fn both_results(call: &[u8], expected: Option<&&[u8]>, given: Option<&&[u8]>) ->
 }
 
 fn known_calls(run: &Run, counts: &Counts) -> Result<(), String> {
-    for known in known::calls() {
+    known::calls().iter().try_for_each(|known| {
         let expected = right::probe::as_list(&known.result);
-        let program = right::probe::program_of(known.call[0]);
-        let sides = [
-            ("model", model_session(run, program, &known.call)),
-            ("program", run.probes[program].output(&known.call)),
-        ];
-        for (side, given) in sides {
-            if given.as_ref() != Ok(&expected) {
-                let given = given.map_or_else(|wrong| wrong, |given| fields::hex(&given));
-                let (name, call, expected) =
-                    (known.name, fields::hex(&known.call), fields::hex(&expected));
-                return Err(format!(
-                    "case {name}, generator \"numbers of the paper\"\n  call: {call}\n  paper: {expected}\n  {side}: {given}"
-                ));
-            }
+        known_session(run, known.name, "numbers of the paper", &known.call, &expected, counts)
+    })
+}
+
+/// Each sets its slice and asks once, so that there are two results.
+fn known_slices(run: &Run, counts: &Counts) -> Result<(), String> {
+    known_slices::asks().iter().try_for_each(|known| {
+        let generator = "answers about slices worked out from the paper";
+        known_session(run, known.name, generator, &known.input, &known.output, counts)
+    })
+}
+
+/// Model and program give what is known.
+fn known_session(
+    run: &Run,
+    name: &str,
+    generator: &str,
+    input: &[u8],
+    expected: &[u8],
+    counts: &Counts,
+) -> Result<(), String> {
+    let program = right::probe::program_of(input[0]);
+    let sides = [
+        ("model", model_session(run, program, input)),
+        ("program", run.probes[program].output(input)),
+    ];
+    for (side, given) in sides {
+        if given.as_deref() != Ok(expected) {
+            let given = given.map_or_else(|wrong| wrong, |given| fields::hex(&given));
+            let (input, expected) = (shown(input), fields::hex(expected));
+            return Err(format!(
+                "case {name}, generator \"{generator}\"\n  call: {input}\n  paper: {expected}\n  {side}: {given}"
+            ));
         }
-        counts.calls.fetch_add(1, Ordering::Relaxed);
     }
+    counts.calls.fetch_add(1, Ordering::Relaxed);
     Ok(())
 }
 
@@ -492,6 +569,10 @@ fn storm_listing(run: &Run, case: usize, counts: &Counts) -> Result<(), String> 
 }
 
 const MOST_INPUT_SHOWN: usize = 6000;
+
+fn shown(bytes: &[u8]) -> String {
+    fields::hex(&bytes[..bytes.len().min(MOST_INPUT_SHOWN)])
+}
 
 fn both_listings(input: &[u8], expected: &[u8], given: &[u8]) -> String {
     let shown = &input[..input.len().min(MOST_INPUT_SHOWN)];

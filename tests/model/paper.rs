@@ -4,7 +4,7 @@
 //! Each rule is a small function, and the sentence it follows stands above it.
 //! The listing reads all bytes of a port at once, in whole stretches and whole
 //! frames; single calls on a given state, those of a listing made packet by packet too, go byte
-//! by byte.
+//! by byte. A slice (document 02, Req 10) is read from a place on, by its frame edges.
 //!
 //! A sentence that is quoted keeps the paper's words. Elsewhere a message's data bytes are its
 //! payload, a packet's line bytes are its piece, and what stands before either is the lead. A line
@@ -22,9 +22,11 @@ pub mod packet;
 pub mod ports;
 pub mod probe;
 pub mod roster;
+pub mod slices;
 
-/// The answer numbers ("Answer numbers", and document 02, Req 04): 2 to 7 and 21 are damages, 8 to 19
-/// and 21 refusals. So 21 is both, and a number alone does not tell a refusal: what gives it does.
+/// The answer numbers ("Answer numbers", and document 02, Req 04 and 10): 2 to 7 and 21 are damages,
+/// 8 to 19, 21, 23 and 24 refusals. So 21 is both, and a number alone does not tell a refusal: what
+/// gives it does.
 pub mod number {
     /// Done; for a reader: the piece is used up.
     pub const DONE: u8 = 0;
@@ -74,6 +76,10 @@ pub mod number {
     /// Drives: a character is outside its set. A damage where a reader tells it, and a refusal where
     /// a writer or another call does.
     pub const WRONG_CHARACTER: u8 = 21;
+    /// A slice has more than 65,536 bytes.
+    pub const SLICE_TOO_LONG: u8 = 23;
+    /// A place is past the end of its slice.
+    pub const PLACE_PAST_THE_END: u8 = 24;
 }
 
 /// What the checks of a stretch or a frame say: a message, or the number of a damage.

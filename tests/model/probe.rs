@@ -4,6 +4,7 @@ use crate::by_packet::{self, Listing};
 use crate::lines::{self, Fields};
 use crate::number;
 use crate::ports::{self, Ports};
+use crate::slices::{self, Found};
 use crate::{checksum, comlynx, drives, eversolar, fronius, hand_over, packet, roster, Written};
 
 /// "A list is W (its length, at most 16,384) and that many bytes."
@@ -12,12 +13,17 @@ const LONGEST_LIST: usize = 16_384;
 /// What is lent at most of a HELD list.
 const MOST_HELD_LENT: usize = 512;
 
-/// Which program makes a call: "`test_probe_readers` makes ops 01 to 0C, `test_probe_listing` makes
-/// ops 81 to 8D, `test_probe_calls` makes all others", counted from 0.
+/// "its length, at most 65,537": one byte more than a slice may have.
+const LONGEST_SLICE_SET: usize = 65_537;
+
+/// Which program makes a call: "`test_probe_readers` makes ops 01 to 0C [..]; `test_probe_listing`
+/// makes ops 81 to 8D [..]; `test_probe_slices` makes ops 91 to 96 [..]; `test_probe_calls` makes all
+/// others". Counted from 0, the one for all others is the third and the one for slices the fourth.
 pub fn program_of(op: u8) -> usize {
     match op {
         0x01..=0x0C => 0,
         0x81..=0x8D => 1,
+        0x91..=0x96 => 3,
         _ => 2,
     }
 }
@@ -27,7 +33,7 @@ pub fn program_of(op: u8) -> usize {
 /// not its own, or a list longer than it may be, ends it: it writes nothing more."
 pub fn session(program: usize, input: &[u8]) -> Vec<u8> {
     let mut output = Vec::new();
-    let mut calls = Arguments { rest: input };
+    let mut calls = Arguments { rest: input, slice: &[] };
     while calls.rest.first().is_some_and(|&op| program_of(op) == program) {
         let Some(result) = next_result(&mut calls) else { break };
         output.extend(as_list(&result));
@@ -37,7 +43,7 @@ pub fn session(program: usize, input: &[u8]) -> Vec<u8> {
 
 /// The result of the first call, without the length before it.
 pub fn answer(call: &[u8]) -> Option<Vec<u8>> {
-    next_result(&mut Arguments { rest: call })
+    next_result(&mut Arguments { rest: call, slice: &[] })
 }
 
 /// A list is its length in two bytes, low byte first, and that many bytes.
@@ -47,9 +53,11 @@ pub fn as_list(bytes: &[u8]) -> Vec<u8> {
     list
 }
 
-/// What is left of the input.
+/// What is left of the input, and the slice that its calls go by: "Before the first op 91 the slice
+/// is empty."
 struct Arguments<'a> {
     rest: &'a [u8],
+    slice: &'a [u8],
 }
 
 impl<'a> Arguments<'a> {
@@ -178,6 +186,12 @@ fn next_result(calls: &mut Arguments) -> Option<Vec<u8>> {
         0x8B => message_line_of(calls, [2, 2, 2]),
         0x8C => message_line_of(calls, [0, 2, 1]),
         0x8D => message_line_of(calls, [1, 2, 1]),
+        0x91 => set_the_slice(calls),
+        0x92 => ask(calls, slices::comlynx, put_comlynx_message),
+        0x93 => ask(calls, slices::eversolar, put_eversolar_message),
+        0x94 => ask(calls, slices::fronius, put_fronius_message),
+        0x95 => ask(calls, slices::drives, put_drives_message),
+        0x96 => judge_the_slice(calls),
         _ => None,
     };
     answer.map(|answer| answer.bytes)
@@ -211,15 +225,18 @@ fn comlynx_call(
     let (piece, mut lent) = (calls.list()?, calls.lent()?);
     let reading = comlynx::read(&mut state, piece, &mut lent);
     let answer = Answer::of(reading.number).word(reading.used as u16).word(reading.lost);
-    let answer = match reading.message {
+    Some(put_state(put_comlynx_message(answer, reading.message), &state).list(&lent))
+}
+
+fn put_comlynx_message(answer: Answer, message: Option<comlynx::Message>) -> Answer {
+    match message {
         Some(message) => answer
             .word(message.source)
             .word(message.destination)
             .byte(message.kind)
             .word(message.payload.len() as u16),
         None => answer.bytes(&[0; 7]),
-    };
-    Some(put_state(answer, &state).list(&lent))
+    }
 }
 
 fn put_comlynx_state(answer: Answer, state: &comlynx::State) -> Answer {
@@ -256,7 +273,11 @@ fn eversolar_call(
     let (piece, mut lent) = (calls.list()?, calls.lent()?);
     let reading = eversolar::read(&mut state, piece, &mut lent);
     let answer = Answer::of(reading.number).word(reading.used as u16).word(reading.lost);
-    let answer = match reading.message {
+    Some(put_state(put_eversolar_message(answer, reading.message), &state).list(&lent))
+}
+
+fn put_eversolar_message(answer: Answer, message: Option<eversolar::Message>) -> Answer {
+    match message {
         Some(message) => answer
             .bytes(&message.source)
             .bytes(&message.destination)
@@ -264,8 +285,7 @@ fn eversolar_call(
             .byte(message.function)
             .word(message.payload.len() as u16),
         None => answer.bytes(&[0; 8]),
-    };
-    Some(put_state(answer, &state).list(&lent))
+    }
 }
 
 fn put_eversolar_state(answer: Answer, state: &eversolar::State) -> Answer {
@@ -301,15 +321,18 @@ fn fronius_call(
     let (piece, mut lent) = (calls.list()?, calls.lent()?);
     let reading = fronius::read(&mut state, piece, &mut lent);
     let answer = Answer::of(reading.number).word(reading.used as u16).word(reading.lost);
-    let answer = match reading.message {
+    Some(put_state(put_fronius_message(answer, reading.message), &state).list(&lent))
+}
+
+fn put_fronius_message(answer: Answer, message: Option<fronius::Message>) -> Answer {
+    match message {
         Some(message) => answer
             .byte(message.device)
             .byte(message.number)
             .byte(message.command)
             .word(message.payload.len() as u16),
         None => answer.bytes(&[0; 5]),
-    };
-    Some(put_state(answer, &state).list(&lent))
+    }
 }
 
 fn put_fronius_state(answer: Answer, state: &fronius::State) -> Answer {
@@ -346,15 +369,18 @@ fn drives_call(
     let (piece, mut lent) = (calls.list()?, calls.lent()?);
     let reading = drives::read(&mut state, piece, &mut lent);
     let answer = Answer::of(reading.number).word(reading.used as u16).word(reading.lost);
-    let answer = match reading.message {
+    Some(put_state(put_drives_message(answer, reading.message), &state).list(&lent))
+}
+
+fn put_drives_message(answer: Answer, message: Option<drives::Message>) -> Answer {
+    match message {
         Some(message) => answer
             .byte(message.opening)
             .bytes(&message.station)
             .byte(message.letter)
             .word(message.payload.len() as u16),
         None => answer.bytes(&[0; 6]),
-    };
-    Some(put_state(answer, &state).list(&lent))
+    }
 }
 
 fn put_drives_state(answer: Answer, state: &drives::State) -> Answer {
@@ -717,4 +743,37 @@ fn list_a_packet(calls: &mut Arguments) -> Option<Answer> {
     let answer = Answer::of(step.number).byte(step.came);
     let answer = answer.word(step.used as u16).word(step.wrote as u16);
     Some(put_listing(answer, &listing).list(&lent))
+}
+
+// ---- slices ----
+
+/// "sets the slice that the later ops go by".
+fn set_the_slice(calls: &mut Arguments) -> Option<Answer> {
+    let length = calls.number(4)? as usize;
+    if length > LONGEST_SLICE_SET {
+        return None;
+    }
+    calls.slice = calls.bytes(length)?;
+    Some(Answer::of(number::DONE))
+}
+
+/// "the next answer from a place in the slice": `find` is the reader of a family, and `put_message`
+/// puts its fields as ops 01 to 03 and 0A do.
+fn ask<M>(
+    calls: &mut Arguments,
+    find: fn(&[u8], u64, &mut [u8]) -> Found<M>,
+    put_message: fn(Answer, Option<M>) -> Answer,
+) -> Option<Answer> {
+    let (place, mut lent) = (calls.number(8)?, calls.lent()?);
+    let found = find(calls.slice, place, &mut lent);
+    let answer = Answer::of(found.number).bytes(&(found.place as u32).to_le_bytes());
+    Some(put_message(answer.word(found.lost), found.message).list(&lent))
+}
+
+/// The slice as one whole stretch: nothing is told of a place.
+fn judge_the_slice(calls: &mut Arguments) -> Option<Answer> {
+    let mut lent = calls.lent()?;
+    let found = slices::whole_stretch(calls.slice, &mut lent);
+    let answer = Answer::of(found.number).word(found.lost);
+    Some(put_comlynx_message(answer, found.message).list(&lent))
 }

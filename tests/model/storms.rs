@@ -164,7 +164,7 @@ fn cut_off(mut bytes: Vec<u8>, random: &mut Random) -> Vec<u8> {
 }
 
 /// What is open at the end: a frame that is not all there, or what may be the front of one.
-fn left_open(family: Family, random: &mut Random) -> Vec<u8> {
+pub fn left_open(family: Family, random: &mut Random) -> Vec<u8> {
     match family {
         Family::ComLynx => open_stretch(random),
         Family::Eversolar => open_eversolar(random),
