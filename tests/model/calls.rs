@@ -10,7 +10,7 @@ use crate::listing_calls::{
     random_port, random_word, word_sweep,
 };
 use crate::random::Random;
-use crate::slice_calls::{few_calls, too_long};
+use crate::slice_calls::{few_calls, too_long, SLICES_TOO_LONG};
 use crate::streams::{self, Family, FAMILIES};
 use crate::SLICES;
 use right::{number, packet, probe};
@@ -38,6 +38,11 @@ impl Call {
         let ended = END_EARLY.iter().position(|&generator| generator == self.generator);
         ended.unwrap_or_else(|| probe::program_of(self.bytes[0]))
     }
+}
+
+/// What ends a session of one of the programs.
+pub fn ending(program: usize, bytes: Vec<u8>) -> Call {
+    Call { generator: END_EARLY[program], bytes }
 }
 
 /// A call that grows argument after argument.
@@ -1259,7 +1264,7 @@ fn call_of(program: usize, random: &mut Random) -> Vec<u8> {
 fn too_long_a_list(program: usize, random: &mut Random) -> Vec<u8> {
     match program {
         0 => return too_many_held(random).bytes,
-        SLICES => return too_long(random).bytes,
+        SLICES => return too_long(random.below(SLICES_TOO_LONG), random).bytes,
         _ => {}
     }
     let length = random.pick(&[16_385, 16_386, 32_768, 65_535]);
@@ -1280,9 +1285,8 @@ pub fn broken_ending(program: usize, random: &mut Random) -> Call {
         _ => {
             let mut whole = call_of(program, random);
             whole.truncate(random.between(0, whole.len() - 1));
-            return Call { generator: END_EARLY[program], bytes: whole };
+            return ending(program, whole);
         }
     };
-    let bytes = [broken, call_of(program, random)].concat();
-    Call { generator: END_EARLY[program], bytes }
+    ending(program, [broken, call_of(program, random)].concat())
 }

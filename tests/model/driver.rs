@@ -61,7 +61,7 @@ struct Amount {
 const DEFAULT: Amount = Amount {
     random_sessions: 50,
     storm_sessions: 20,
-    slice_sessions: 12,
+    slice_sessions: 16,
     listings: 1000,
     storm_listings: 100,
     full_listings: 6,
@@ -69,7 +69,7 @@ const DEFAULT: Amount = Amount {
 const LONG: Amount = Amount {
     random_sessions: 1000,
     storm_sessions: 400,
-    slice_sessions: 240,
+    slice_sessions: 320,
     listings: 12_000,
     storm_listings: 2000,
     full_listings: 24,
@@ -272,11 +272,12 @@ fn do_job(run: &Run, job: Job, sweeps: &[&[Call]], counts: &Counts) -> Result<()
         Job::SliceSweep(which) => {
             let mut random = Random::of(run.seed, 12, which as u64);
             let asked = slice_calls::sweep(which, &mut random);
-            slice_session(run, &format!("slices, sweep {which}"), &asked, counts)
+            let ending = slice_calls::ending_of_a_sweep(which, &mut random);
+            slice_session(run, &format!("slices, sweep {which}"), &asked, &[ending], counts)
         }
         Job::SliceSession(case) => {
             let asked = slice_calls::random_slices(&mut Random::of(run.seed, 13, case as u64));
-            slice_session(run, &format!("slices {case}"), &asked, counts)
+            slice_session(run, &format!("slices {case}"), &asked, &[], counts)
         }
         Job::Listings(job) => (0..LISTINGS_IN_A_JOB).try_for_each(|order| {
             let case = job * LISTINGS_IN_A_JOB + order;
@@ -384,9 +385,15 @@ fn storm_session(run: &Run, case: usize, counts: &Counts) -> Result<(), String> 
 }
 
 /// What is asked of the answers about a slice is asked of what the program answered.
-fn slice_session(run: &Run, name: &str, asked: &[Asked], counts: &Counts) -> Result<(), String> {
-    let calls: Vec<(usize, &Call)> =
-        asked.iter().flat_map(|asked| &asked.calls).enumerate().collect();
+fn slice_session(
+    run: &Run,
+    name: &str,
+    asked: &[Asked],
+    ending: &[Call],
+    counts: &Counts,
+) -> Result<(), String> {
+    let calls = asked.iter().flat_map(|asked| &asked.calls).chain(ending);
+    let calls: Vec<(usize, &Call)> = calls.enumerate().collect();
     let mut results = compare_calls(run, SLICES, name, &calls, counts)?.into_iter();
     for asked in asked {
         let own: Vec<Vec<u8>> = results.by_ref().take(asked.calls.len()).collect();

@@ -1,11 +1,12 @@
 //! Slices and what is asked of them (document 02, Req 10): telling ones written out, ones about each
 //! limit, long ones and random ones, asked from every place or from some, and asked on and on.
 
-use crate::calls::{op, Call, Making};
+use crate::calls::{ending, op, Call, Making};
 use crate::known::bytes;
 use crate::random::Random;
 use crate::storms::left_open;
 use crate::streams::{self, Family, FAMILIES};
+use crate::SLICES;
 use right::{comlynx, drives, number, slices};
 use std::ops::Range;
 
@@ -153,7 +154,7 @@ const D1: &str = "05 30 31 52 33 30 30 30 31 41 37 04";
 
 /// Flags alone, frames that share a flag and that do not, a 7D before a flag, pairs and broken
 /// pairs, and one thing wrong in P1.
-const TELLING_OF_COMLYNX: [&[&str]; 30] = [
+const TELLING_OF_COMLYNX: [&[&str]; 31] = [
     &["7E"],
     &["7D"],
     &["7E 7E"],
@@ -179,7 +180,8 @@ const TELLING_OF_COMLYNX: [&[&str]; 30] = [
     &["7E 41 7D", P1],
     &[STUFFED, P1_GOING_ON],
     &["7E FF 03 00 02 11 FF 00 15 79 7D", P1],
-    &["7E FE 03 00 02 11 FF 00 15 79 91", P1_GOING_ON, P1],
+    &["7E FE 03 00 02 11 FF 00 15 79 91 7E", P1_GOING_ON],
+    &["7E FF 02 00 02 11 FF 00 15 79 91 7E", P1_GOING_ON],
     &["7E FF 03 00 02 11 FF 01 15 79 91 7E", P1_GOING_ON],
     &["7E FF 03 00 02 11 FF 00 15 79 90 7E", P1_GOING_ON],
     &["7E FF 03 00 02 11 FF 00 15 79 91 00 7E"],
@@ -709,20 +711,43 @@ pub fn few_calls(random: &mut Random) -> Vec<Call> {
     asked.calls
 }
 
+// ---- what ends a session ----
+
+/// How many calls there are that are too long.
+pub const SLICES_TOO_LONG: usize = 7;
+
 /// A whole call but for its slice, which is longer than a slice that is set may be, or for what is
 /// lent, which is longer than a list may be.
-pub fn too_long(random: &mut Random) -> Making {
-    let length = random.pick(&[65_538, 65_539, 81_920]);
-    match random.below(3) {
-        0 => setting(&random.bytes(length)),
-        1 => op(op_of(random.pick(&FAMILIES))).q(0).list(&vec![0; random.between(16_385, 16_386)]),
-        _ => op(0x96).list(&vec![0; random.between(16_385, 16_386)]),
+pub fn too_long(which: usize, random: &mut Random) -> Making {
+    match which {
+        0 => setting(&random.bytes(65_538)),
+        1 => setting(&random.bytes(65_539)),
+        2 => op(0x96).list(&random.bytes(16_385)),
+        _ => op(op_of(FAMILIES[which - 3])).q(0).list(&random.bytes(16_385)),
     }
+}
+
+/// What ends the session of a sweep, a way for each: what is too long, an opcode that is not its
+/// own, and then a call that must get no answer; or a call that is not all there.
+pub fn ending_of_a_sweep(which: usize, random: &mut Random) -> Call {
+    let (set, ask) = (setting(&[0x7E; 9]), op(0x92).q(0).list(&random.bytes(ENOUGH)));
+    let broken = match which {
+        0..SLICES_TOO_LONG => too_long(which, random),
+        7 => op(0x90),
+        8 => op(0x97),
+        9 => op(0x71).list(&[0x41]),
+        _ => {
+            let mut cut = [&set, &set, &ask, &ask][which - 10].bytes.clone();
+            cut.truncate([cut.len() - 1, 4, cut.len() - 1, 8][which - 10]);
+            return ending(SLICES, cut);
+        }
+    };
+    ending(SLICES, [broken.bytes, set.bytes, ask.bytes].concat())
 }
 
 // ---- all of them ----
 
-/// How many sweeps there are.
+/// How many sweeps there are, and ways to end the session of one.
 pub const SWEEPS: usize = 14;
 
 /// Every limit once, from both sides.

@@ -3,8 +3,9 @@
 //! from a place in the slice, with the place after it".
 //!
 //! The rules are those of the streaming readers, written down a second time and in another way: the
-//! edges are searched for, and what lies between them is judged as a whole. Nothing that a
-//! streaming reader judges by is called here, so that each way can show a slip in the other.
+//! edges are searched for, and what lies between them is judged as a whole. Of what a streaming
+//! reader judges by only the checksum's rule is called here, so that each way can show a slip in the
+//! other.
 
 use crate::LEAST_LENT_TO_A_READER;
 use crate::{checksum, comlynx, drives, eversolar, fronius, number};
