@@ -446,7 +446,7 @@ fn compare_calls(
         if expected.get(at) != given.get(at) {
             let bytes = calls.get(at).map_or(&[][..], |(_, call)| &call.bytes);
             let report = both_results(bytes, expected.get(at), given.get(at));
-            let slice = match slice_before(calls, at) {
+            let slice = match slice_before(program, calls, at) {
                 [] => String::new(),
                 slice => format!("  the slice is set by: {}\n", shown(slice)),
             };
@@ -469,19 +469,21 @@ fn model_stopped(
     wrong: &str,
 ) -> String {
     let stops = |&at: &usize| {
-        let alone = [slice_before(calls, at), &calls[at].1.bytes].concat();
+        let alone = [slice_before(program, calls, at), &calls[at].1.bytes].concat();
         model_session(run, program, &alone).is_err()
     };
     let generator = (0..calls.len()).find(stops).map_or("", |at| calls[at].1.generator);
     format!("case {case}, generator \"{generator}\": {wrong}")
 }
 
-/// The last call before this one that sets a slice, without which an ask is another; nothing for
-/// the calls of the other programs.
-fn slice_before<'a>(calls: &[(usize, &'a Call)], at: usize) -> &'a [u8] {
-    let before = calls.iter().take(at).rev();
-    let setting = before.map(|(_, call)| &call.bytes).find(|bytes| bytes.first() == Some(&0x91));
-    setting.map_or(&[], |bytes| bytes)
+/// The last call before this one that sets a slice, without which an ask is another one; nothing
+/// for the calls of the other programs.
+fn slice_before<'a>(program: usize, calls: &[(usize, &'a Call)], at: usize) -> &'a [u8] {
+    let mut before = calls.iter().take(at).rev().map(|(_, call)| &call.bytes);
+    match before.find(|bytes| program == SLICES && bytes.first() == Some(&0x91)) {
+        Some(setting) => setting,
+        None => &[],
+    }
 }
 
 fn both_results(call: &[u8], expected: Option<&&[u8]>, given: Option<&&[u8]>) -> String {

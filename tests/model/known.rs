@@ -1,7 +1,7 @@
 //! The numbers the paper prints: P1 to P12, L1, and published examples of 000, with their
 //! answers written out. Eversolar's words go as document 02, Req 03, has them; the cases N1 to N16
 //! are of its Req 09, the bytes lost with each damage. What is known of drives is a source of its
-//! own, and so is what is known after a storm (Req 13).
+//! own, and so is what is known after a storm (Req 13) and of slices (Req 10).
 
 use crate::{known_drives, known_storms};
 

@@ -32,10 +32,11 @@ pub struct Asked {
 /// What is lent at least.
 pub const ENOUGH: usize = 255;
 
-/// More than a place of the first slices can be, some of them with few bits but the high ones.
+/// Places past the end of every slice but the longest. Some are small where their high bits are cut
+/// off.
 const FAR: [u64; 7] = [65_536, 65_537, 1 << 32, (1 << 32) + 1, 1 << 63, u64::MAX - 1, u64::MAX];
 
-pub fn op_of(family: Family) -> u8 {
+fn op_of(family: Family) -> u8 {
     match family {
         Family::ComLynx => 0x92,
         Family::Eversolar => 0x93,
@@ -290,8 +291,8 @@ fn telling_slices(family: Family, random: &mut Random) -> Vec<Asked> {
     let payload = random.content(length);
     let frame = streams::frame_with(family, random, payload);
     for cut in 0..=frame.len() {
-        let slice = frame[..cut].to_vec();
-        asked.push(Asked::of(CUT, slice).from_some_places(family, random));
+        let slice = Asked::of(CUT, frame[..cut].to_vec()).from_some_places(family, random);
+        asked.push(slice.on_and_on(family, random));
     }
     asked
 }
@@ -342,6 +343,7 @@ fn limits_of_stretches(random: &mut Random) -> Vec<Asked> {
                 slice.pop();
             }
         }
+        slice.push(comlynx::FLAG);
         asked.push(Asked::of(STRETCHES, slice).on_and_on(Family::ComLynx, random));
     }
     for stretch in ending_with_a_pair() {
