@@ -1,7 +1,7 @@
 -- What an answer tells by its number, and what a judged frame tells and delivers.
 -- Assumes nothing.
 use Prim.Native.Nat.{ℕ, _+_, _≤_}
-use mathlib.Core.Path.{_≡_, refl, sym, ap}
+use mathlib.Core.Path.{_≡_, refl, sym, ap, subst}
 use mathlib.Core.Bool.{Bool, true, false, cond}
 use mathlib.Core.List.{List}
 use lib.ListN.{length, take, drop, getD, length-drop}
@@ -10,16 +10,17 @@ use lib.Dec.{eqb}
 use borrow.Author.Tests.{eq-eqb, ne-eqb}
 use native.Mathlib.Omega.{arith}
 use Rattle.answers.specs.declared.Damage.the-variants.{WrongSum}
-use Rattle.stream.specs.Event.{message, damage, Told, gives, outcome}
+use Rattle.stream.specs.Event.{Event, message, damage, Told, gives, outcome}
 use Rattle.stream.specs.Event as Event
 use Rattle.stream.specs.Call.{retold, delivered}
-use Rattle.stream.proofs.HeldIsDelivered.{Delivers, delivers-held, delivers-told}
+use Rattle.stream.specs.Delivery as Delivery
+use Rattle.stream.proofs.HeldIsDelivered.{delivers-held}
 use Rattle.eversolar_words.specs.Words.{word}
 use Rattle.eversolar.specs.Wire.{Message, payloadMax, earlierOf, checksum, messageOf}
 use Rattle.eversolar.specs.Rules.{judged}
 use Rattle.eversolar.specs.Machine.{heldMax}
 use Rattle.eversolar.specs.Reader.{number, told, header}
-use Rattle.eversolar.specs.Inside.{judgedFrame, eventOf, Fits, JudgedAs, Small, given}
+use Rattle.eversolar.specs.Inside.{judgedFrame, eventOf, Fits, JudgedAs, Small, Held, given}
 use Rattle.eversolar.specs.declared.reader.Header.{Header}
 use Rattle.eversolar.specs.declared.reader.Answer.{Answer}
 use Rattle.eversolar.specs.declared.reader.Answer.the-variants.{Done, Message as Read, Damaged, Refused}
@@ -73,22 +74,33 @@ module _ (len : ℕ) (held : List ℕ) (room : 7 + len ≤ length held) where
   unfolding judged
   judged-wrong last n = rw (ne-eqb (cameSum len last held) (rightSum len held) n)
 
--- ---- what the end of a run delivers
+-- ---- what a judged frame delivers, and so the end of a run
 
-abbrev DeliversTo : List ℕ → List ℕ → Told Message → Type 0
-DeliversTo held lent t = Delivers header (λ m. m .payload) (λ h. h .len) payloadMax 7 held lent (retold header t) t
+-- of what is told, and told of its header: the data are few, all held, and delivered
+abbrev Hands : List ℕ → List ℕ → Told Header → Told Message → Type 0
+Hands held lent h t =
+    Delivery.Small (λ (x : Header). x .len) payloadMax h × Delivery.Small (λ (x : Header). 7 + x .len) (length held) h
+    × (Delivery.given (λ (x : Header). x .len) 7 h held lent ≡ delivered (λ (m : Message). m .payload) t lent)
 
-end-delivers : (end : End) (held lent : List ℕ) → Fits end → length held ≡ heldMax → DeliversTo held lent (outcome (eventOf end held))
+frame-hands : (len last : ℕ) (held lent : List ℕ) → len ≤ payloadMax → 7 + len ≤ length held → Hands held lent (retold header (outcome (judgedFrame len last held))) (outcome (judgedFrame len last held))
 unfolding judged
-end-delivers UsedUp held lent f l = (tt, refl)
-end-delivers (Closed len last) held lent f l = go (eqb (cameSum len last held) (rightSum len held))
+frame-hands len last held lent small room = go (eqb (cameSum len last held) (rightSum len held))
   where
-    go : (t : Bool) → DeliversTo held lent (gives (cond t (message (heldMessage len held)) (damage 6 (11 + len))))
+    go : (t : Bool) → (let e : Event Message = cond t (message (heldMessage len held)) (damage 6 (11 + len)) in Hands held lent (retold header (gives e)) (gives e))
     go true =
-        let n = held-length len held (omega arith) in
-        delivers-held header (λ m. m .payload) (λ h. h .len) payloadMax 7 held lent (heldMessage len held) (omega (arith, n)) (ap (λ (k : ℕ). take k (drop 7 held)) n)
-    go false = (tt, refl)
+        let n = held-length len held room in
+        let d = delivers-held header (λ m. m .payload) (λ h. h .len) payloadMax 7 held lent (heldMessage len held) (omega (arith, n)) (ap (λ (k : ℕ). take k (drop 7 held)) n) in
+        (d .0, omega (arith, n), d .1)
+    go false = (tt, tt, refl)
+
+end-hands : (end : End) (held lent : List ℕ) → Fits end → length held ≡ heldMax → Hands held lent (retold header (outcome (eventOf end held))) (outcome (eventOf end held))
+end-hands UsedUp held lent f l = (tt, tt, refl)
+end-hands (Closed len last) held lent f l = frame-hands len last held lent f (omega arith)
+
+pub frame-delivers : (len last : ℕ) (held lent : List ℕ) (a : Answer) → len ≤ payloadMax → 7 + len ≤ length held → JudgedAs (judgedFrame len last held) a
+    → Small a × Held a held × (given a held lent ≡ delivered (λ (m : Message). m .payload) (outcome (judgedFrame len last held)) lent)
+frame-delivers len last held lent a small room e = subst (λ (s : Told Header). Hands held lent s (outcome (judgedFrame len last held))) (sym e) (frame-hands len last held lent small room)
 
 pub delivers : (end : End) (held lent : List ℕ) (a : Answer) → Fits end → length held ≡ heldMax → JudgedAs (eventOf end held) a
-    → Small a × (given a held lent ≡ delivered (λ (m : Message). m .payload) (outcome (eventOf end held)) lent)
-delivers end held lent a f l e = delivers-told header (λ m. m .payload) (λ h. h .len) payloadMax 7 held lent (told a) (outcome (eventOf end held)) e (end-delivers end held lent f l)
+    → Small a × Held a held × (given a held lent ≡ delivered (λ (m : Message). m .payload) (outcome (eventOf end held)) lent)
+delivers end held lent a f l e = subst (λ (s : Told Header). Hands held lent s (outcome (eventOf end held))) (sym e) (end-hands end held lent f l)

@@ -66,9 +66,12 @@ pub record Runs (stage count len : ℕ) (held piece : List ℕ) (r : Ran) (later
 abbrev pub JudgedAs : Option (Event Message) → Answer → Type 0
 JudgedAs event answer = told answer ≡ retold header (Event.outcome event)
 
--- `deliver`: a length that is told is one that a message has, and this is the lent buffer afterwards
+-- `deliver`: a length that is told is one that a message has, all its data are held, and this is the lent buffer afterwards
 abbrev pub Small : Answer → Type 0
 Small answer = Delivery.Small (λ (h : Header). h .len) payloadMax (told answer)
+
+abbrev pub Held : Answer → List ℕ → Type 0
+Held answer held = Delivery.Small (λ (h : Header). 7 + h .len) (length held) (told answer)
 
 abbrev pub given : Answer → List ℕ → List ℕ → List ℕ
 given answer = Delivery.given (λ (h : Header). h .len) 7 (told answer)

@@ -19,7 +19,7 @@ ghost use Rattle.eversolar.specs.Wire.{checksum, payloadMax, earlierOf};
 ghost use Rattle.numbers.specs.Lists.{total};
 ghost use Rattle.eversolar.specs.Machine.{advanceOf, heldMax, inRange, most};
 ghost use Rattle.eversolar.specs.Reader.{IsFresh, IsStep, IsStepInPlace};
-ghost use Rattle.eversolar.specs.Inside.{Hunted, Filled, Fits, Runs, eventOf, judgedFrame, JudgedAs, Small, given};
+ghost use Rattle.eversolar.specs.Inside.{Hunted, Filled, Fits, Runs, eventOf, judgedFrame, JudgedAs, Small, Held, given};
 
 // The two bytes that open a frame.
 pub(crate) const FIRST_MARK: u8 = 0xAA;
@@ -28,12 +28,12 @@ pub(crate) const SECOND_MARK: u8 = 0x55;
 
 // The limits, named here because the reader's own constants cannot size its own array. AA 55, source, destination, control, function and length come
 // before the data.
-const HEADER: usize = 9;
+pub(crate) const HEADER: usize = 9;
 
 const PAYLOAD: usize = 255;
 
 // The checksum's two bytes.
-const SUM: usize = 2;
+pub(crate) const SUM: usize = 2;
 
 const BODY: usize = HEADER + PAYLOAD + SUM;
 
@@ -44,9 +44,9 @@ pub(crate) const MARKS: usize = 2;
 const HELD: usize = BODY - MARKS - 1;
 
 // Where the data begin among the held bytes, right after the length.
-const PAYLOAD_AT: usize = HEADER - MARKS;
+pub(crate) const PAYLOAD_AT: usize = HEADER - MARKS;
 
-const LENGTH_AT: usize = PAYLOAD_AT - 1;
+pub(crate) const LENGTH_AT: usize = PAYLOAD_AT - 1;
 
 // What the bytes read so far have led to. A field that the stage does not use is 0; what `held` has from `count` on is left over and means nothing.
 pub struct Reader {
@@ -321,9 +321,9 @@ pub(crate) fn checksum_of(len: usize, s: &[u8]) -> u16
     (sum % 65536) as u16
 }
 
-// What a frame comes to, by its length, the last byte of its checksum and the held bytes.
-fn judge_frame(len: usize, last: u8, held: &[u8]) -> Answer
-    requires { ⌜ (len ≤ payloadMax) × (length (now held) ≡ heldMax) ⌝ }
+// What a frame comes to, by its length, the last byte of its checksum and the bytes between AA 55 and that, at the front of `held`.
+pub(crate) fn judge_frame(len: usize, last: u8, held: &[u8]) -> Answer
+    requires { ⌜ (len ≤ payloadMax) × (8 + len ≤ length (now held)) ⌝ }
     ensures { λ r. ⌜ JudgedAs (judgedFrame len last (now (held .entry))) r ⌝ }
 {
     let came = word(held[PAYLOAD_AT + len], last);
@@ -359,8 +359,8 @@ fn judge(end: End, held: &[u8]) -> Answer
 }
 
 // A message's data go to the front of the lent buffer.
-fn deliver(answer: Answer, held: &[u8], lent: &mut [u8])
-    requires { ⌜ Small answer × (length (now held) ≡ heldMax) × (lentLeast ≤ length (now lent)) ⌝ }
+pub(crate) fn deliver(answer: Answer, held: &[u8], lent: &mut [u8])
+    requires { ⌜ Small answer × Held answer (now held) × (lentLeast ≤ length (now lent)) ⌝ }
     ensures { λ _. ⌜ now (lent .exit) ≡ given answer (now (held .entry)) (now (lent .entry)) ⌝ }
 {
     match answer {

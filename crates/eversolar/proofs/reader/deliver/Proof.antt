@@ -1,17 +1,20 @@
 use Rattle.eversolar.specs.Wire.{payloadMax}
 use mathlib.Core.Path.{subst, sym, _∙_, ap}
-use lib.ListN.{length-take, length-drop}
+use lib.ListN.{length, length-take, length-drop}
 use Rattle.stream.proofs.ListLaws.{part-front}
-use Rattle.eversolar.specs.Inside.{Small, given}
+use Rattle.eversolar.specs.Inside.{Small, Held, given}
 use Rattle.eversolar.specs.declared.reader.Answer.{Answer}
 use native.Mathlib.Omega.{arith}
-use Prim.Native.Nat.{_≤_}
+use Prim.Native.Nat.{_+_, _≤_}
 use borrow.Author.Needs.{needs}
 use Rattle.eversolar.proofs.reader.deliver.Statement.{statement}
 use Rattle.eversolar.proofs.reader.deliver.Tie as tie
 
 small-at : (c : tie.After-answer) → c .answer .given .0 .0 .len ≤ payloadMax
 small-at c = subst Small (c .answer .given .1) (c .before .before .before .before .pre .0)
+
+held-at : (c : tie.After-answer) → 7 + c .answer .given .0 .0 .len ≤ length (c .before .before .before .before .args .held .now)
+held-at c = subst (λ (a : Answer). Held a (c .before .before .before .before .args .held .now)) (c .answer .given .1) (c .before .before .before .before .pre .1)
 
 enum-known-answer : tie.Need-enum-known-answer
 enum-known-answer c = search needs
@@ -26,7 +29,7 @@ part-copy-start : tie.Need-part-copy-start
 part-copy-start c = search needs
 
 part-copy-end : tie.Need-part-copy-end
-part-copy-end c = omega (arith, small-at (c .before))
+part-copy-end c = omega (arith, held-at (c .before))
 
 copy-requires : tie.Need-copy-requires
 copy-requires c κs = simp (length-take, length-drop) (omega (arith, small-at (c .before .before .before)))

@@ -1,3 +1,4 @@
+use native.Mathlib.Omega.{arith}
 use mathlib.Core.Path.{subst, sym, _∙_, ap}
 use Rattle.stream.specs.Event.{outcome}
 use Rattle.stream.specs.Call.{retold}
@@ -20,7 +21,7 @@ judge-frame-requires : tie.Need-judge-frame-requires
 judge-frame-requires c κs =
     let p = c .before .before .before .before .pre in
     let fits : c .before .end .given .0 .0 ≤ payloadMax = subst Fits (c .before .end .given .1) (p .0) in
-    (fits, p .1)
+    (fits, omega (arith, fits, p .1))
 
 returns : tie.Need-returns
 returns c = ap (λ (e : End). retold header (outcome (eventOf e (c .before .before .before .args .held .now)))) (sym (c .enum-told .given .1))

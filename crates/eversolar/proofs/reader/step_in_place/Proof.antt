@@ -7,7 +7,7 @@ use Rattle.stream.proofs.InPlaceIsStep.{whole-full, whole-sound}
 use Rattle.eversolar.specs.Wire.{Message}
 use Rattle.eversolar.specs.Machine.{heldMax, holding, next}
 use Rattle.eversolar.specs.Reader.{inRange, whole, header, number, told, shown}
-use Rattle.eversolar.specs.Inside.{eventOf, Small, given}
+use Rattle.eversolar.specs.Inside.{eventOf, Small, Held, given}
 use Rattle.eversolar.specs.declared.reader.Reader.{Reader}
 use Rattle.eversolar.specs.declared.reader.Answer.the-variants.{Refused}
 use Rattle.answers.specs.declared.Refusal.the-variants.{NoRoom, Spoilt}
@@ -58,7 +58,7 @@ room c = omega (arith, c .before .before .if2 .left)
 abbrev ran : tie.After-judge → tie.After-run-in
 ran c = c .before .before .before .before
 
-judged : (c : tie.After-judge) → Small (c .judge .result)
+judged : (c : tie.After-judge) → Small (c .judge .result) × Held (c .judge .result) (held (ran c))
     × (given (c .judge .result) (held (ran c)) (start (ran c) .args .lent .now) ≡ delivered (λ (m : Message). m .payload) (outcome (eventOf (ran c .run-in .result .end) (held (ran c)))) (start (ran c) .args .lent .now))
 judged c = delivers (ran c .run-in .result .end) (held (ran c)) (start (ran c) .args .lent .now) (c .judge .result) (ran c .run-in .ensures .fits) (full (ran c)) (c .judge .ensures)
 
@@ -88,7 +88,7 @@ judge-requires c κs =
 deliver-requires : tie.Need-deliver-requires
 deliver-requires c κs =
     let k = c .before .before in
-    (judged k .0, full (ran k), room (ran k))
+    (judged k .0, judged k .1, room (ran k))
 
 same-length : tie.Need-same-length
 same-length c = search needs
@@ -105,7 +105,7 @@ returns-3 c =
     let a = s .args in
     steps-scan next whole header (λ m. m .payload) shown (state s) (a .piece .now) (a .lent .now) _ (record { reader = after r; answer = k .judge .result; used = r .run-in .result .used }) _ (is-whole (r .before .before .before)) (room r) (r .run-in .ensures .scanned)
     (shows header (after r) (number (k .judge .result)) (told (k .judge .result)) (outcome (eventOf (r .run-in .result .end) (held r))) (r .run-in .result .used) (number-told (k .judge .result)) (k .judge .ensures))
-    (d .deliver .ensures ∙ judged k .1)
+    (d .deliver .ensures ∙ judged k .2)
     (whole-full (λ (t : Reader). t .held) heldMax inRange (after r) (full r) ∙ r .run-in .ensures .ranged)
 
 pub step-in-place-spec : {M : Type 1} → statement M
