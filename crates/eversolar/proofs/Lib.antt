@@ -1,6 +1,7 @@
 pub mod MachineMoves
 pub mod StageRanges
 pub mod JudgedIsDelivered
+pub mod SearchFindsFrame
 pub mod WriterWritesFrame
 pub mod MachineFollowsRule
 pub mod AcceptedIsWritten

@@ -11,16 +11,22 @@ use Rattle.answers.proofs.NumbersHaveCases.{refusals, damages}
 use Rattle.answers.proofs.WriterPromise.{writes-one}
 use Rattle.stream.specs.Event.{message, damage, Told, done, gives, refuses}
 use Rattle.stream.specs.Call.{Seen}
+use Rattle.stream.specs.Slice.{Asked}
 use Rattle.stream.proofs.PromiseOfStep.{steps-one}
+use Rattle.stream.proofs.SlicesAsStreams.{answers-one}
 use Rattle.eversolar.specs.Wire.{Message, payloadMax, wire}
+use Rattle.eversolar.specs.Rules.{rule}
 use Rattle.eversolar.specs.Machine.{holding, next}
 use Rattle.eversolar.specs.Reader.{inRange, whole, header, told, shown, together, IsFresh, IsStep, IsStepInPlace}
+use Rattle.eversolar.specs.Slice.{knownAt, IsAnswerAt}
+use Rattle.eversolar.specs.Slice as Slice
 use Rattle.eversolar.specs.Writer.{IsWritten}
 use Rattle.eversolar.specs.declared.reader.Reader.{Reader}
 use Rattle.eversolar.specs.declared.reader.Header.{Header}
 use Rattle.eversolar.specs.declared.reader.Step.{Step}
 use Rattle.eversolar.specs.declared.reader.StepInPlace.{StepInPlace}
 use Rattle.eversolar.specs.declared.reader.Answer.{Answer}
+use Rattle.eversolar.specs.declared.slice.Found.{Found}
 use Rattle.eversolar.specs.declared.reader.Answer.the-variants.{Done, Message as Read, Damaged, Refused}
 
 pub fresh-one : (r s : Reader) → IsFresh r → IsFresh s → r ≡ s
@@ -69,6 +75,13 @@ step-in-place-one stage count len held piece lent x y a b q r f g =
     let one = steps-one next whole header (λ m. m .payload) shown (holding stage count len held) piece lent a b (together x q) (together y r) f g in
     let same = shown-alike (together x q) (together y r) (one .0) in
     (ap apart same, ap (λ (s : Step). s .reader .held) same, one .1)
+
+pub answer-at-one : (slice : List ℕ) (place : ℕ) (lent a b : List ℕ) (q r : Found) → IsAnswerAt slice place lent q a → IsAnswerAt slice place lent r b → (q ≡ r) × (a ≡ b)
+answer-at-one slice place lent a b q r x y =
+    let one = answers-one rule knownAt header (λ m. m .payload) Slice.shown slice lent a b place q r x y in
+    let answer = told-alike (q .answer) (r .answer) (ap (λ (v : Asked Header). v .told) (one .0)) in
+    let at = ap (λ (v : Asked Header). v .place) (one .0) in
+    (ap {B = Found} (λ v. record { answer = v; place = q .place }) answer ∙ ap {B = Found} (λ (n : ℕ). record { answer = r .answer; place = n }) at, one .1)
 
 pub write-one : (sourceFirst sourceSecond destinationFirst destinationSecond control function : ℕ) (payload lent a b : List ℕ) (v w : Written)
     → IsWritten sourceFirst sourceSecond destinationFirst destinationSecond control function payload lent v a

@@ -1,18 +1,19 @@
 -- What the inner functions promise. No public promise cites this file: it need not be read.
 use Prim.Native.Nat.{ℕ, _+_, _-_, _≤_, _<_}
 use mathlib.Core.Path.{_≡_}
-use mathlib.Core.Bool.{true}
+use mathlib.Core.Bool.{Bool, true}
 use mathlib.Core.Option.{Option, none, some}
 use mathlib.Core.List.{List}
 use lib.ListN.{length, take, drop, getD}
+use lib.Dec.{leb}
 use Rattle.stream.specs.Event.{Event}
 use Rattle.stream.specs.Event as Event
-use Rattle.stream.specs.Call.{retold}
+use Rattle.stream.specs.Call.{retold, delivered}
 use Rattle.stream.specs.Pieces.{scan, scanFrom}
 use Rattle.stream.specs.Delivery as Delivery
 use Rattle.eversolar_words.specs.Words.{word}
 use Rattle.eversolar.specs.Wire.{Message, payloadMax}
-use Rattle.eversolar.specs.Rules.{judged}
+use Rattle.eversolar.specs.Rules.{judged, frame, sought}
 use Rattle.eversolar.specs.Machine.{holding, inRange, most, next}
 use Rattle.eversolar.specs.Reader.{told, header}
 use Rattle.eversolar.specs.declared.reader.Header.{Header}
@@ -75,3 +76,18 @@ Held answer held = Delivery.Small (λ (h : Header). 7 + h .len) (length held) (t
 
 abbrev pub given : Answer → List ℕ → List ℕ → List ℕ
 given answer = Delivery.given (λ (h : Header). h .len) 7 (told answer)
+
+-- `mark_from`: from i on AA 55 stands first at j; or it stands nowhere, and j is the end of the slice, behind which no frame is found
+pub record Marked (slice : List ℕ) (i j : ℕ) : Type 0 where
+  pub forward : i ≤ j
+  pub within : j ≤ length slice
+  pub finds : sought 0 (drop i slice) ≡ frame (j - i + 2) (drop (j + 2) slice)
+
+-- `is_whole`: from AA 55 on there are the bytes of a frame, 11 plus N (while N is not there, it counts as 0, and the checksum is missing)
+abbrev pub wholeAt : List ℕ → ℕ → Bool
+wholeAt slice mark = leb (11 + getD slice (mark + 2 + 6) 0) (length slice - mark)
+
+-- `judge_at`: the answer tells the event that a frame is, by its length and the bytes behind its AA 55; and this is the lent buffer afterwards
+pub record JudgedAt (len : ℕ) (body lent : List ℕ) (answer : Answer) (later : List ℕ) : Type 0 where
+  pub tells : JudgedAs (judgedFrame len (getD body (8 + len) 0) body) answer
+  pub leaves : later ≡ delivered (λ (m : Message). m .payload) (Event.outcome (judgedFrame len (getD body (8 + len) 0) body)) lent

@@ -1,5 +1,6 @@
-// Eversolar: reader and writer.
+// Eversolar: streaming reader, reader of slices and writer.
 pub mod reader;
+pub mod slice;
 pub mod writer;
 
 pub use reader::Answer;
@@ -8,4 +9,6 @@ pub use reader::Reader;
 pub use reader::Step;
 pub use reader::StepInPlace;
 pub use reader::step_in_place;
+pub use slice::Found;
+pub use slice::answer_at;
 pub use writer::write;
