@@ -64,13 +64,13 @@ module _ (m : Message) where
       let payload : take n (m .payload ++ wordBytes sum) ≡ m .payload = take-append-seam (m .payload) (wordBytes sum) in
       rw (le-ltb (length rest) (9 + n) (omega arith), came, payload, eq-eqb sum sum refl)
 
-  read : rule tt (wire m) ≡ some (record { event = message m; used = length (wire m) })
+  pub read : rule tt (wire m) ≡ some (record { event = message m; used = length (wire m) })
   unfolding sought
   read =
       let count : length (wire m) ≡ 2 + (9 + n) = omega (arith, wire-length m) in
       rw count framed
 
-wire-bytes : (m : Message) → Takes m → T (areBytes (wire m))
+pub wire-bytes : (m : Message) → Takes m → T (areBytes (wire m))
 unfolding checksum
 wire-bytes m t =
     let n = length (m .payload) in
@@ -96,7 +96,7 @@ pub joins : (m : Message) (rest : List ℕ) → join (header m) (m .payload ++ r
 joins m rest =
     ap {B = Message} (λ (l : List ℕ). record { sourceFirst = m .sourceFirst; sourceSecond = m .sourceSecond; destinationFirst = m .destinationFirst; destinationSecond = m .destinationSecond; control = m .control; function = m .function; payload = l }) (take-append-seam (m .payload) rest)
 
-pub facts : Facts eversolar
+unfoldable pub facts : Facts eversolar
 unfolding Machine.inRange
 facts = record {
   next = next;

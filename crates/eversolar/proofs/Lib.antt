@@ -10,4 +10,5 @@ pub mod ResultsExist
 pub mod FamilyFacts
 pub mod Demands
 pub mod NotAfterStorm
+pub mod SlicesAsStreams
 pub mod One

@@ -11,13 +11,18 @@ use Rattle.stream.specs.Call.{seenBy}
 use Rattle.stream.specs.Family.{Family}
 use Rattle.stream.specs.Demands.{Demands, EndsWith}
 use Rattle.stream.specs.Storm.{AfterStorm, NeverRead}
+use Rattle.stream.specs.Slice.{SliceReader}
+use Rattle.stream.specs.Slice as Slice
 use Rattle.eversolar.specs.Wire.{Message, Takes, wire}
 use Rattle.eversolar.specs.Rules.{rule}
 use Rattle.eversolar.specs.Machine.{fresh}
 use Rattle.eversolar.specs.Reader.{join, shown, IsStep}
+use Rattle.eversolar.specs.Slice.{knownAt, IsAnswerAt}
+use Rattle.eversolar.specs.Slice as OfSlices
 use Rattle.eversolar.specs.Writer.{IsWritten}
 use Rattle.eversolar.specs.declared.reader.Reader.{Reader}
 use Rattle.eversolar.specs.declared.reader.Step.{Step}
+use Rattle.eversolar.specs.declared.slice.Found.{Found}
 
 abbrev pub eversolar : Family
 eversolar = record {
@@ -41,6 +46,20 @@ eversolar = record {
 -- WHAT IS DEMANDED OF EVERSOLAR: demands 1 to 3 of document 01, each a field of `Demands`, over the rule, the writer and the reader above
 abbrev pub Demanded : Type 0
 Demanded = Demands eversolar
+
+-- its reader of slices, to a host: at no place does a byte before it count
+abbrev pub slices : SliceReader eversolar
+slices = record {
+  knownAt = knownAt;
+  handedFirst = λ known. [];
+  Found = Found;
+  Answers = IsAnswerAt;
+  seen = Slice.seenBy join OfSlices.shown;
+}
+
+-- WHAT IS DEMANDED OF THAT (document 02, Req 10): asked from place to place, it tells what the streaming reader tells
+abbrev pub SlicesAsStreams : Type 0
+SlicesAsStreams = Slice.SlicesAsStreams eversolar slices
 
 -- ---- its own
 
