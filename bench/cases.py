@@ -7,6 +7,7 @@ import frames
 PAIRS = {
     "reading": ("pace_reading", "plain.c"),
     "in_place": ("pace_in_place", "plain.c"),
+    "slices": ("pace_slices", "slices.c"),
     "writing": ("pace_writing", "writers.c"),
     "giving": ("pace_giving", "roster.c"),
     "listing": ("sbrlist", "listing.c"),
@@ -44,6 +45,34 @@ IN_PLACE = {
     ("drives", 0): (1.0, 0.8, 0.8, 0.8),
     ("drives", 5): (1.1, 0.9, 0.9, 0.9),
     ("drives", 37): (1.0, 0.6, 0.5, 0.5),
+}
+# by `answer_at`, beside C that searches for the frame edges too: 1.0 is asked for of ComLynx and Eversolar, 1.2 of the others
+SLICES = {
+    ("comlynx", 0): 1.0,
+    ("comlynx", 10): 1.0,
+    ("comlynx", 66): 1.0,
+    ("comlynx", 255): 1.0,
+    ("eversolar", 0): 1.0,
+    ("eversolar", 66): 1.0,
+    ("eversolar", 255): 1.0,
+    ("fronius", 0): 1.2,
+    ("fronius", 66): 1.2,
+    ("fronius", 127): 1.2,
+    ("drives", 0): 1.2,
+    ("drives", 5): 1.2,
+    ("drives", 37): 1.2,
+}
+# slices in which no frame ends, asked once: what each byte costs does not grow with them
+SEARCHED = {
+    ("comlynx", "no flag"): (b"", b"\0", 1.0),
+    ("comlynx", "no second flag"): (b"~", b"\0", 1.0),
+    ("comlynx", "flags alone"): (b"", b"~", 1.0),
+    ("eversolar", "no AA"): (b"", b"\0", 1.0),
+    ("eversolar", "AA alone"): (b"", b"\xaa", 1.0),
+    ("fronius", "no 80"): (b"", b"\0", 1.2),
+    ("fronius", "80 alone"): (b"", b"\x80", 1.2),
+    ("drives", "no opening byte"): (b"", b"\0", 1.2),
+    ("drives", "no EOT"): (b"\5", b"\0", 1.2),
 }
 WRITING = {
     ("comlynx", 10): 0.9,
@@ -88,6 +117,7 @@ class Row:
     limit: float
     wrote: str = None  # what is to be written for `more`, where that is known
     frames: int = None  # where units are not frames, and it is wanted
+    below: str = None  # another pair, whose program of ours is to take more for the same
 
 
 def word(n):
@@ -109,6 +139,26 @@ def reading():
 
 def in_place():
     return read_by("in_place", IN_PLACE)
+
+
+def slice_head(family):
+    return bytes([frames.FAMILIES[family][0]]) + word(frames.MOST)  # for the streaming readers: all of it is one piece
+
+
+def slices():
+    for (family, data), limit in SLICES.items():
+        head = slice_head(family)
+        text, messages, line = frames.stream(family, data, frames.MOST)
+        yield Row("slices", (NAMES[family], data), "slices", head + b"\0", head + text, len(text) - 1, limit, line, messages, "reading")
+
+
+def searched():
+    for (family, what), (first, other, limit) in SEARCHED.items():
+        head = slice_head(family)
+        line = f"{head[0]} 0 0 0 0\n"
+        for length in (frames.MOST // 4, frames.MOST):
+            text = first + other * (length - len(first))
+            yield Row("searched", (NAMES[family], what, length), "slices", head + b"\0", head + text, length - 1, limit, line)
 
 
 def writing_input(what, times, data, room=600):
@@ -161,7 +211,7 @@ def listing():
 
 
 def rows():
-    for part in (reading, in_place, writing, checksum, giving, listing):
+    for part in (reading, in_place, slices, searched, writing, checksum, giving, listing):
         yield from part()
 
 
@@ -174,6 +224,8 @@ def alike():
                 what = f"{NAMES[family]} with {data} data bytes, one in {every} changed, in pieces of {piece}"
                 for pair in ("reading", "in_place"):
                     yield pair, what, bytes([number]) + word(piece) + text, True
+            what = f"{NAMES[family]} with {data} data bytes, one in {every} changed, as a slice"
+            yield "slices", what, bytes([number]) + word(frames.MOST) + text, True
         for count in (0, 1, most, most + 1):
             for data in (made(some_data(count)), bytes(frames.SPECIAL[k % 3] for k in range(count))):
                 for room in (0, 7, count + 8, count + 11, count + 12, 2 * count + 12, 600):

@@ -10,7 +10,8 @@ import subprocess
 from kit import Broken, traced
 
 MOST = 14  # stretches that are told
-UNIT = {"reading": "frame", "in_place": "frame", "writing": "frame", "checksum": "call", "giving": "call", "listing": "byte"}
+UNIT = {"reading": "frame", "in_place": "frame", "slices": "frame", "searched": "byte", "writing": "frame", "checksum": "call", "giving": "call",
+        "listing": "byte"}
 KINDS = ("16-byte moves", "other moves", "tests and jumps", "calls", "arithmetic")
 
 
