@@ -20,7 +20,7 @@ use Rattle.eversolar.specs.Wire.{Message, payloadMax, earlierOf, checksu
 use Rattle.eversolar.specs.Rules.{judged}
 use Rattle.eversolar.specs.Machine.{heldMax}
 use Rattle.eversolar.specs.Reader.{number, told, header}
-use Rattle.eversolar.specs.Inside.{judgedFrame, eventOf, Fits, JudgedAs, Small, Held, given}
+use Rattle.eversolar.specs.Inside.{judgedFrame, eventOf, Fits, JudgedAs, Small, There, given}
 use Rattle.eversolar.specs.declared.reader.Header.{Header}
 use Rattle.eversolar.specs.declared.reader.Answer.{Answer}
 use Rattle.eversolar.specs.declared.reader.Answer.the-variants.{Done, Message as Read, Damaged, Refused}
@@ -98,9 +98,9 @@ end-hands UsedUp held lent f l = (tt, tt, refl)
 end-hands (Closed len last) held lent f l = frame-hands len last held lent f (omega arith)
 
 pub frame-delivers : (len last : ℕ) (held lent : List ℕ) (a : Answer) → len ≤ payloadMax → 7 + len ≤ length held → JudgedAs (judgedFrame len last held) a
-    → Small a × Held a held × (given a held lent ≡ delivered (λ (m : Message). m .payload) (outcome (judgedFrame len last held)) lent)
+    → Small a × There a held × (given a held lent ≡ delivered (λ (m : Message). m .payload) (outcome (judgedFrame len last held)) lent)
 frame-delivers len last held lent a small room e = subst (λ (s : Told Header). Hands held lent s (outcome (judgedFrame len last held))) (sym e) (frame-hands len last held lent small room)
 
 pub delivers : (end : End) (held lent : List ℕ) (a : Answer) → Fits end → length held ≡ heldMax → JudgedAs (eventOf end held) a
-    → Small a × Held a held × (given a held lent ≡ delivered (λ (m : Message). m .payload) (outcome (eventOf end held)) lent)
+    → Small a × There a held × (given a held lent ≡ delivered (λ (m : Message). m .payload) (outcome (eventOf end held)) lent)
 delivers end held lent a f l e = subst (λ (s : Told Header). Hands held lent s (outcome (eventOf end held))) (sym e) (end-hands end held lent f l)

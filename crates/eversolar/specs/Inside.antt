@@ -71,8 +71,8 @@ JudgedAs event answer = told answer ≡ retold header (Event.outcome event)
 abbrev pub Small : Answer → Type 0
 Small answer = Delivery.Small (λ (h : Header). h .len) payloadMax (told answer)
 
-abbrev pub Held : Answer → List ℕ → Type 0
-Held answer held = Delivery.Small (λ (h : Header). 7 + h .len) (length held) (told answer)
+abbrev pub There : Answer → List ℕ → Type 0
+There answer held = Delivery.Small (λ (h : Header). 7 + h .len) (length held) (told answer)
 
 abbrev pub given : Answer → List ℕ → List ℕ → List ℕ
 given answer = Delivery.given (λ (h : Header). h .len) 7 (told answer)

@@ -19,7 +19,7 @@ ghost use Rattle.eversolar.specs.Wire.{checksum, payloadMax, earlierOf};
 ghost use Rattle.numbers.specs.Lists.{total};
 ghost use Rattle.eversolar.specs.Machine.{advanceOf, heldMax, inRange, most};
 ghost use Rattle.eversolar.specs.Reader.{IsFresh, IsStep, IsStepInPlace};
-ghost use Rattle.eversolar.specs.Inside.{Hunted, Filled, Fits, Runs, eventOf, judgedFrame, JudgedAs, Small, Held, given};
+ghost use Rattle.eversolar.specs.Inside.{Hunted, Filled, Fits, Runs, eventOf, judgedFrame, JudgedAs, Small, There, given};
 
 // The two bytes that open a frame.
 pub(crate) const FIRST_MARK: u8 = 0xAA;
@@ -360,7 +360,7 @@ fn judge(end: End, held: &[u8]) -> Answer
 
 // A message's data go to the front of the lent buffer.
 pub(crate) fn deliver(answer: Answer, held: &[u8], lent: &mut [u8])
-    requires { ⌜ Small answer × Held answer (now held) × (lentLeast ≤ length (now lent)) ⌝ }
+    requires { ⌜ Small answer × There answer (now held) × (lentLeast ≤ length (now lent)) ⌝ }
     ensures { λ _. ⌜ now (lent .exit) ≡ given answer (now (held .entry)) (now (lent .entry)) ⌝ }
 {
     match answer {

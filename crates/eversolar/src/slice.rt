@@ -75,7 +75,7 @@ fn judge_at(len: usize, body: &[u8], lent: &mut [u8]) -> Answer
 }
 
 // The first frame from `place` on, judged; or nothing, where the slice ends before it is whole.
-fn frame_from(slice: &[u8], place: usize, lent: &mut [u8]) -> Found
+fn answer_from(slice: &[u8], place: usize, lent: &mut [u8]) -> Found
     requires { ⌜ (length (now slice) ≤ sliceMost) × (place ≤ length (now slice)) × (lentLeast ≤ length (now lent)) ⌝ }
     ensures { λ r. ⌜ IsAnswerAt (now (slice .entry)) place (now (lent .entry)) r (now (lent .exit)) ⌝ }
 {
@@ -111,5 +111,5 @@ pub fn answer_at(slice: &[u8], place: usize, lent: &mut [u8]) -> Found
         let answer = Answer::Refused(Refusal::NoRoom);
         return Found { answer, place: 0 };
     }
-    frame_from(slice, place, lent)
+    answer_from(slice, place, lent)
 }

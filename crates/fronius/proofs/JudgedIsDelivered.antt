@@ -21,7 +21,7 @@ use Rattle.fronius.specs.Wire.{Message, payloadMax, checksum, messageOf}
 use Rattle.fronius.specs.Rules.{judged}
 use Rattle.fronius.specs.Machine.{heldMax}
 use Rattle.fronius.specs.Reader.{number, told, header}
-use Rattle.fronius.specs.Inside.{judgedFrame, eventOf, Fits, JudgedAs, Small, Held, given}
+use Rattle.fronius.specs.Inside.{judgedFrame, eventOf, Fits, JudgedAs, Small, There, given}
 use Rattle.fronius.specs.declared.reader.Header.{Header}
 use Rattle.fronius.specs.declared.reader.Answer.{Answer}
 use Rattle.fronius.specs.declared.reader.Answer.the-variants.{Done, Message as Read, Damaged, Refused}
@@ -90,7 +90,7 @@ end-delivers BadLength held lent f l = ((tt, refl), tt)
 
 -- an answer that tells what came delivers it
 abbrev pub DeliveredBy : Answer → Option (Event Message) → List ℕ → List ℕ → Type 0
-DeliveredBy a event held lent = Small a × Held a held × (given a held lent ≡ delivered (λ (m : Message). m .payload) (outcome event) lent)
+DeliveredBy a event held lent = Small a × There a held × (given a held lent ≡ delivered (λ (m : Message). m .payload) (outcome event) lent)
 
 by-answer : (event : Option (Event Message)) (held lent : List ℕ) (a : Answer) → JudgedAs event a
     → DeliversTo held lent (outcome event) × Holds held (retold header (outcome event)) → DeliveredBy a event held lent

@@ -19,7 +19,7 @@ ghost use Rattle.fronius.specs.Wire.{payloadMax, checksum};
 ghost use Rattle.numbers.specs.Lists.{total};
 ghost use Rattle.fronius.specs.Machine.{heldMax, advanceOf, inRange};
 ghost use Rattle.fronius.specs.Reader.{IsFresh, IsStep, IsStepInPlace};
-ghost use Rattle.fronius.specs.Inside.{Filled, Opens, Enters, Fits, Runs, eventOf, judgedFrame, JudgedAs, Small, Held, given};
+ghost use Rattle.fronius.specs.Inside.{Filled, Opens, Enters, Fits, Runs, eventOf, judgedFrame, JudgedAs, Small, There, given};
 
 // The limits, named here because the reader's own constants cannot size its own array. 80 80 80, length, device, number and command come before the data.
 const HEADER: usize = 7;
@@ -384,7 +384,7 @@ fn judge(end: End, held: &[u8]) -> Answer
 
 // A message's data go to the front of the lent buffer.
 pub(crate) fn deliver(answer: Answer, held: &[u8], lent: &mut [u8])
-    requires { ⌜ Small answer × Held answer (now held) × (lentLeast ≤ length (now lent)) ⌝ }
+    requires { ⌜ Small answer × There answer (now held) × (lentLeast ≤ length (now lent)) ⌝ }
     ensures { λ _. ⌜ now (lent .exit) ≡ given answer (now (held .entry)) (now (lent .entry)) ⌝ }
 {
     match answer {

@@ -2,7 +2,7 @@ use Rattle.eversolar.specs.Wire.{payloadMax}
 use mathlib.Core.Path.{subst, sym, _∙_, ap}
 use lib.ListN.{length, length-take, length-drop}
 use Rattle.stream.proofs.ListLaws.{part-front}
-use Rattle.eversolar.specs.Inside.{Small, Held, given}
+use Rattle.eversolar.specs.Inside.{Small, There, given}
 use Rattle.eversolar.specs.declared.reader.Answer.{Answer}
 use native.Mathlib.Omega.{arith}
 use Prim.Native.Nat.{_+_, _≤_}
@@ -14,7 +14,7 @@ small-at : (c : tie.After-answer) → c .answer .given .0 .0 .len ≤ payloadMax
 small-at c = subst Small (c .answer .given .1) (c .before .before .before .before .pre .0)
 
 held-at : (c : tie.After-answer) → 7 + c .answer .given .0 .0 .len ≤ length (c .before .before .before .before .args .held .now)
-held-at c = subst (λ (a : Answer). Held a (c .before .before .before .before .args .held .now)) (c .answer .given .1) (c .before .before .before .before .pre .1)
+held-at c = subst (λ (a : Answer). There a (c .before .before .before .before .args .held .now)) (c .answer .given .1) (c .before .before .before .before .pre .1)
 
 enum-known-answer : tie.Need-enum-known-answer
 enum-known-answer c = search needs

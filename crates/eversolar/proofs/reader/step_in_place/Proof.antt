@@ -7,7 +7,7 @@ use Rattle.stream.proofs.InPlaceIsStep.{whole-full, whole-sound}
 use Rattle.eversolar.specs.Wire.{Message}
 use Rattle.eversolar.specs.Machine.{heldMax, holding, next}
 use Rattle.eversolar.specs.Reader.{inRange, whole, header, number, told, shown}
-use Rattle.eversolar.specs.Inside.{eventOf, Small, Held, given}
+use Rattle.eversolar.specs.Inside.{eventOf, Small, There, given}
 use Rattle.eversolar.specs.declared.reader.Reader.{Reader}
 use Rattle.eversolar.specs.declared.reader.Answer.the-variants.{Refused}
 use Rattle.answers.specs.declared.Refusal.the-variants.{NoRoom, Spoilt}
@@ -58,7 +58,7 @@ room c = omega (arith, c .before .before .if2 .left)
 abbrev ran : tie.After-judge → tie.After-run-in
 ran c = c .before .before .before .before
 
-judged : (c : tie.After-judge) → Small (c .judge .result) × Held (c .judge .result) (held (ran c))
+judged : (c : tie.After-judge) → Small (c .judge .result) × There (c .judge .result) (held (ran c))
     × (given (c .judge .result) (held (ran c)) (start (ran c) .args .lent .now) ≡ delivered (λ (m : Message). m .payload) (outcome (eventOf (ran c .run-in .result .end) (held (ran c)))) (start (ran c) .args .lent .now))
 judged c = delivers (ran c .run-in .result .end) (held (ran c)) (start (ran c) .args .lent .now) (c .judge .result) (ran c .run-in .ensures .fits) (full (ran c)) (c .judge .ensures)
 

@@ -25,8 +25,8 @@ returns-3 c =
     let a = c .before .before .before .before .before .args in
     answers-no-room rule knownAt header (λ m. m .payload) shown (a .slice .now) (a .lent .now) (a .place) (record { answer = Refused NoRoom; place = 0 }) (omega arith) (omega arith) (omega arith) refl
 
-frame-from-requires : tie.Need-frame-from-requires
-frame-from-requires c κs = search needs
+answer-from-requires : tie.Need-answer-from-requires
+answer-from-requires c κs = search needs
 
 same-length : tie.Need-same-length
 same-length c = search needs
@@ -35,4 +35,4 @@ returns-4 : tie.Need-returns-4
 returns-4 c = search needs
 
 pub answer-at-spec : {M : Type 1} → statement M
-answer-at-spec = tie.close (tie.spec returns returns-2 returns-3 frame-from-requires same-length returns-4)
+answer-at-spec = tie.close (tie.spec returns returns-2 returns-3 answer-from-requires same-length returns-4)

@@ -2,7 +2,7 @@ use mathlib.Core.List.{List}
 use Rattle.stream.specs.Event.{outcome}
 use Rattle.stream.specs.Call.{delivered}
 use Rattle.eversolar.specs.Wire.{Message}
-use Rattle.eversolar.specs.Inside.{judgedFrame, Small, Held, given}
+use Rattle.eversolar.specs.Inside.{judgedFrame, Small, There, given}
 use Rattle.eversolar.proofs.JudgedIsDelivered.{frame-delivers}
 use native.Mathlib.Omega.{arith}
 use Prim.Native.Nat.{ℕ, _+_}
@@ -20,7 +20,7 @@ abbrev B : tie.After-judge-frame → List ℕ
 B c = start c .args .body .now
 
 handed : (c : tie.After-judge-frame) → (let a = start c .args in
-    Small (c .judge-frame .result) × Held (c .judge-frame .result) (B c)
+    Small (c .judge-frame .result) × There (c .judge-frame .result) (B c)
     × (given (c .judge-frame .result) (B c) (a .lent .now) ≡ delivered (λ (m : Message). m .payload) (outcome (judgedFrame (a .len) (getD (B c) (8 + a .len) 0) (B c))) (a .lent .now)))
 handed c =
     let s = start c in

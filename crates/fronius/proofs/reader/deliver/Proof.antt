@@ -4,7 +4,7 @@ use mathlib.Core.Path.{subst}
 use lib.ListN.{length, length-take, length-drop}
 use Rattle.stream.proofs.ListLaws.{part-front}
 use Rattle.fronius.specs.Wire.{payloadMax}
-use Rattle.fronius.specs.Inside.{Small, Held, given}
+use Rattle.fronius.specs.Inside.{Small, There, given}
 use Rattle.fronius.specs.declared.reader.Answer.{Answer}
 use native.Mathlib.Omega.{arith}
 use Prim.Native.Nat.{_+_, _≤_}
@@ -17,7 +17,7 @@ small-at : (c : tie.After-answer) → c .answer .given .0 .0 .len ≤ payloadMax
 small-at c = subst Small (c .answer .given .1) (c .before .before .before .before .pre .0)
 
 held-at : (c : tie.After-answer) → 3 + c .answer .given .0 .0 .len ≤ length (c .before .before .before .before .args .held .now)
-held-at c = let start = c .before .before .before .before in subst (λ (a : Answer). Held a (start .args .held .now)) (c .answer .given .1) (start .pre .1)
+held-at c = let start = c .before .before .before .before in subst (λ (a : Answer). There a (start .args .held .now)) (c .answer .given .1) (start .pre .1)
 
 enum-known-answer : tie.Need-enum-known-answer
 enum-known-answer c = search needs

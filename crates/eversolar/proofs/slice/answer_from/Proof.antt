@@ -7,8 +7,8 @@ use Prim.Native.Nat.{ℕ, _+_, _-_, _≤_, _<_}
 use mathlib.Core.Path.{sym, _∙_}
 use lib.ListN.{length}
 use borrow.Author.Needs.{needs}
-use Rattle.eversolar.proofs.slice.frame_from.Statement.{statement}
-use Rattle.eversolar.proofs.slice.frame_from.Tie as tie
+use Rattle.eversolar.proofs.slice.answer_from.Statement.{statement}
+use Rattle.eversolar.proofs.slice.answer_from.Tie as tie
 
 -- where the frame is known to be whole or not: the search, the start of the call, the slice, and the place that the search came to
 abbrev searched : tie.After-is-whole → tie.After-mark-from
@@ -89,8 +89,8 @@ returns-2 c =
     let s = start k in
     judged-there (S k) (M k) (s .args .lent .now) (s .args .place) (searched k .mark-from .ensures) (s .pre .0) (s .pre .1) (s .pre .2) (j .judge-at .result) _ (whole (r .before)) (j .judge-at .ensures)
 
-pub frame-from-spec : {M : Type 1} → statement M
-frame-from-spec =
+pub answer-from-spec : {M : Type 1} → statement M
+answer-from-spec =
     tie.close
     (tie.spec
     mark-from-requires
