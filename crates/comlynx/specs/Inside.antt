@@ -64,16 +64,19 @@ pub record Runs (stage came count : ℕ) (held piece : List ℕ) (r : Ran) (late
 abbrev pub due : ℕ → ℕ → ℕ → List ℕ → Bool
 due count low high held = eqb (getD held (count - 2) 0) low && eqb (getD held (count - 1) 0) high
 
--- `judge`: the answer tells the event
+-- `judge` and `judge_closed`: the answer tells the event
 abbrev pub JudgedAs : Option (Event Message) → Answer → Type 0
 JudgedAs event answer = told answer ≡ retold header (Event.outcome event)
 
 abbrev pub Judges : (count came low high : ℕ) → List ℕ → Answer → Type 0
 Judges count came low high held = JudgedAs (some (judged came count (due count low high held) (take count held)))
 
--- `deliver`: a length that is told is one that a message has, and this is the lent buffer afterwards
+-- `deliver`: a length that is told is one that a message has, header and data are there, and this is the lent buffer afterwards
 abbrev pub Small : Answer → Type 0
 Small answer = Delivery.Small (λ (h : Header). h .len) payloadMax (told answer)
+
+abbrev pub There : Answer → List ℕ → Type 0
+There answer held = Delivery.Small (λ (h : Header). 8 + h .len) (length held) (told answer)
 
 abbrev pub given : Answer → List ℕ → List ℕ → List ℕ
 given answer = Delivery.given (λ (h : Header). h .len) 8 (told answer)

@@ -11,18 +11,19 @@ use answers::Refusal;
 use numbers::least;
 use numbers::wide;
 use numbers::word;
-ghost use Prim.Native.Nat.{_+_, _-_, _≤_};
+ghost use Prim.Native.Nat.{min, _+_, _-_, _≤_};
 ghost use mathlib.Core.Path.{_≡_};
 ghost use mathlib.Core.Bool.{true};
+ghost use mathlib.Core.Option.{some};
 ghost use lib.ListN.{length};
 ghost use Rattle.stream.specs.Call.{lentLeast};
 ghost use Rattle.comlynx.specs.Rules.{sized, begins};
 ghost use Rattle.answers.specs.declared.Damage.{Damage};
 ghost use Rattle.comlynx.specs.declared.reader.Answer.the-variants.{Damaged};
-ghost use Rattle.comlynx.specs.Machine.{more, keepOf, advanceOf, inRange};
+ghost use Rattle.comlynx.specs.Machine.{more, keepOf, advanceOf, inRange, closed};
 ghost use Rattle.comlynx.specs.Wire.{bodyMax};
 ghost use Rattle.comlynx.specs.Reader.{IsFresh, IsStep, IsStepInPlace};
-ghost use Rattle.comlynx.specs.Inside.{runLength, AllPlain, Filled, Runs, eventOf, due, Judges, JudgedAs, Small, given};
+ghost use Rattle.comlynx.specs.Inside.{runLength, AllPlain, Filled, Runs, eventOf, due, Judges, JudgedAs, Small, There, given};
 
 // The limits, named here because the reader's own constants cannot size its own array. FF 03, source, destination, size and type come before the data.
 const HEADER: usize = 8;
@@ -386,7 +387,7 @@ fn sized(count: usize) -> bool
 
 // Whether what is held begins FF 03.
 fn begins(held: &[u8]) -> bool
-    requires { ⌜ length (now held) ≡ bodyMax ⌝ }
+    requires { ⌜ 2 ≤ length (now held) ⌝ }
     ensures { λ r. ⌜ r ≡ begins (now (held .entry)) ⌝ }
 {
     (held[0] == FIRST) & (held[1] == SECOND)
@@ -394,7 +395,7 @@ fn begins(held: &[u8]) -> bool
 
 // Whether the last two of `count` held bytes are the two that are due.
 fn ends(count: usize, low: u8, high: u8, held: &[u8]) -> bool
-    requires { ⌜ (2 ≤ count) × (count ≤ bodyMax) × (length (now held) ≡ bodyMax) ⌝ }
+    requires { ⌜ (2 ≤ count) × (count ≤ length (now held)) ⌝ }
     ensures { λ r. ⌜ r ≡ due count low high (now (held .entry)) ⌝ }
 {
     (held[count - SUM] == low) & (held[count - 1] == high)
@@ -415,8 +416,9 @@ fn damaged(what: Damage, lost: u16) -> Answer
 }
 
 // The checks of a closed stretch in order, by its `count` unstuffed bytes and the two checksum bytes that are due. `came` bytes are lost if one fails.
+// Of the unstuffed bytes there need be no more than a body may have.
 fn judge_frame(count: usize, came: u16, low: u8, high: u8, held: &[u8]) -> Answer
-    requires { ⌜ length (now held) ≡ bodyMax ⌝ }
+    requires { ⌜ min count bodyMax ≤ length (now held) ⌝ }
     ensures { λ r. ⌜ Judges count came low high (now (held .entry)) r ⌝ }
 {
     if !sized(count) {
@@ -443,25 +445,31 @@ fn judge_frame(count: usize, came: u16, low: u8, high: u8, held: &[u8]) -> Answe
     Answer::Message(header)
 }
 
-// What the end of a run comes to. The checksum is asked for here, once where a stretch closes.
+// What a closed stretch comes to. The checksum is asked for here, once.
+pub(crate) fn judge_closed(count: usize, came: u16, held: &[u8]) -> Answer
+    requires { ⌜ min count bodyMax ≤ length (now held) ⌝ }
+    ensures { λ r. ⌜ JudgedAs (some (closed came count (now (held .entry)))) r ⌝ }
+{
+    let sum = comlynx_checksum::of_first(held, covered(count));
+    let due = comlynx_checksum::sent_of(sum);
+    judge_frame(count, came, due.low, due.high, held)
+}
+
+// What the end of a run comes to.
 pub(crate) fn judge(end: End, held: &[u8]) -> Answer
     requires { ⌜ length (now held) ≡ bodyMax ⌝ }
     ensures { λ r. ⌜ JudgedAs (eventOf end (now (held .entry))) r ⌝ }
 {
     match end {
         End::UsedUp => Answer::Done,
-        End::Closed { count, came } => {
-            let sum = comlynx_checksum::of_first(held, covered(count));
-            let due = comlynx_checksum::sent_of(sum);
-            judge_frame(count, came, due.low, due.high, held)
-        }
+        End::Closed { count, came } => judge_closed(count, came, held),
         End::Broken { came } => damaged(Damage::BrokenPair, came),
     }
 }
 
 // A message's data go to the front of the lent buffer.
 pub(crate) fn deliver(answer: Answer, held: &[u8], lent: &mut [u8])
-    requires { ⌜ Small answer × (length (now held) ≡ bodyMax) × (lentLeast ≤ length (now lent)) ⌝ }
+    requires { ⌜ Small answer × There answer (now held) × (lentLeast ≤ length (now lent)) ⌝ }
     ensures { λ _. ⌜ now (lent .exit) ≡ given answer (now (held .entry)) (now (lent .entry)) ⌝ }
 {
     match answer {

@@ -1,11 +1,11 @@
 use mathlib.Core.Path.{subst}
-use lib.ListN.{length-take, length-drop}
+use lib.ListN.{length, length-take, length-drop}
 use Rattle.stream.proofs.ListLaws.{part-front}
 use Rattle.comlynx.specs.Wire.{payloadMax}
-use Rattle.comlynx.specs.Inside.{Small, given}
+use Rattle.comlynx.specs.Inside.{Small, There, given}
 use Rattle.comlynx.specs.declared.reader.Answer.{Answer}
 use native.Mathlib.Omega.{arith}
-use Prim.Native.Nat.{_≤_}
+use Prim.Native.Nat.{_+_, _≤_}
 use mathlib.Core.Path.{sym, _∙_, ap}
 use borrow.Author.Needs.{needs}
 use Rattle.comlynx.proofs.reader.deliver.Statement.{statement}
@@ -13,6 +13,9 @@ use Rattle.comlynx.proofs.reader.deliver.Tie as tie
 
 small-at : (c : tie.After-answer) → c .answer .given .0 .0 .len ≤ payloadMax
 small-at c = subst Small (c .answer .given .1) (c .before .before .before .before .pre .0)
+
+there-at : (c : tie.After-answer) → 8 + c .answer .given .0 .0 .len ≤ length (c .before .before .before .before .args .held .now)
+there-at c = let start = c .before .before .before .before in subst (λ (a : Answer). There a (start .args .held .now)) (c .answer .given .1) (start .pre .1)
 
 enum-known-answer : tie.Need-enum-known-answer
 enum-known-answer c = search needs
@@ -27,7 +30,7 @@ part-copy-start : tie.Need-part-copy-start
 part-copy-start c = search needs
 
 part-copy-end : tie.Need-part-copy-end
-part-copy-end c = omega (arith, small-at (c .before))
+part-copy-end c = omega (arith, there-at (c .before))
 
 copy-requires : tie.Need-copy-requires
 copy-requires c κs = simp (length-take, length-drop) (omega (arith, small-at (c .before .before .before)))

@@ -1,15 +1,15 @@
-use Rattle.comlynx.specs.Wire.{bodyMax, bodyLeast}
+use Rattle.comlynx.specs.Wire.{bodyLeast}
 use Rattle.comlynx.specs.Reader.{told}
 use borrow.Author.Tests.{not-true, not-false}
 use Rattle.comlynx.specs.Rules.{sized, begins}
 use Rattle.comlynx.specs.declared.reader.Header.{Header}
 use Rattle.comlynx.specs.declared.reader.Answer.the-variants.{Message as Read}
-use Rattle.comlynx.proofs.JudgedIsDelivered.{sized-bounds, heldHeader, judged-length, judged-start, judged-size, judged-sum, judged-message}
+use Rattle.comlynx.proofs.JudgedIsDelivered.{sized-bounds, all-there, heldHeader, judged-length, judged-start, judged-size, judged-sum, judged-message}
 use native.Mathlib.Omega.{arith}
 use Prim.Native.Nat.{ℕ, _-_, _≤_}
 use mathlib.Core.Path.{_≡_, sym, _∙_, ap}
 use mathlib.Core.Bool.{true}
-use lib.ListN.{getD}
+use lib.ListN.{length, getD}
 use borrow.Author.Needs.{needs}
 use Rattle.comlynx.proofs.reader.judge_frame.Statement.{statement}
 use Rattle.comlynx.proofs.reader.judge_frame.Tie as tie
@@ -24,8 +24,13 @@ fits c = sym (c .before .sized .ensures) ∙ not-false _ (c .if1 .left)
 starts : (c : tie.Else2) → begins (start (c .before .before) .args .held .now) ≡ true
 starts c = sym (c .before .begins .ensures) ∙ not-false _ (c .if2 .left)
 
-bounds : (c : tie.Else1) → (bodyLeast ≤ start c .args .count) × (start c .args .count ≤ bodyMax)
-bounds c = sized-bounds (start c .args .count) (fits c)
+bounds : (c : tie.Else1) → (bodyLeast ≤ start c .args .count) × (start c .args .count ≤ length (start c .args .held .now))
+bounds c =
+    let a = start c .args in
+    (sized-bounds (a .count) (fits c) .0, all-there (a .count) (a .held .now) (start c .pre) (fits c))
+
+all-read : (c : tie.Else4) → bodyLeast ≤ length (start (c .before .before .before .before .before .before .before) .args .held .now)
+all-read c = let b = bounds (c .before .before .before .before .before .before .before) in omega arith
 
 less-ten : (n : ℕ) → n - bodyLeast ≡ n - 8 - 2
 less-ten n = omega arith
@@ -54,7 +59,7 @@ returns d =
     ∙ judged-length (s .args .count) (s .args .came) (s .args .low) (s .args .high) (s .args .held .now) (s .pre) (sym (c .before .sized .ensures) ∙ not-true _ (c .if1 .taken))
 
 begins-requires : tie.Need-begins-requires
-begins-requires c κs = search needs
+begins-requires c κs = let b = bounds c in omega arith
 
 damaged-requires-2 : tie.Need-damaged-requires-2
 damaged-requires-2 c κs = search needs
@@ -74,7 +79,7 @@ sub-len-2 : tie.Need-sub-len-2
 sub-len-2 c = let b = bounds (c .before .before) in omega arith
 
 shared-slice-read-wide : tie.Need-shared-slice-read-wide
-shared-slice-read-wide c = search needs
+shared-slice-read-wide c = let b = bounds (c .before .before .before) in omega arith
 
 wide-requires : tie.Need-wide-requires
 wide-requires c κs = search needs
@@ -94,7 +99,7 @@ ends-requires : tie.Need-ends-requires
 ends-requires c κs =
     let k = c .before .before .before .before .before in
     let b = bounds k in
-    (omega arith, b .1, start k .pre)
+    (omega arith, b .1)
 
 damaged-requires-4 : tie.Need-damaged-requires-4
 damaged-requires-4 c κs = search needs
@@ -109,25 +114,25 @@ returns-4 d =
     ∙ judged-sum (s .args .count) (s .args .came) (s .args .low) (s .args .high) (s .args .held .now) (s .pre) (fits (j .before .before)) (starts j) (size k) (sym (c .before .ends .ensures) ∙ not-true _ (c .if4 .taken))
 
 shared-slice-read-word : tie.Need-shared-slice-read-word
-shared-slice-read-word c = search needs
+shared-slice-read-word c = let b = all-read (c .before) in omega arith
 
 shared-slice-read-word-2 : tie.Need-shared-slice-read-word-2
-shared-slice-read-word-2 c = search needs
+shared-slice-read-word-2 c = let b = all-read (c .before .before) in omega arith
 
 word-requires : tie.Need-word-requires
 word-requires c κs = search needs
 
 shared-slice-read-word-3 : tie.Need-shared-slice-read-word-3
-shared-slice-read-word-3 c = search needs
+shared-slice-read-word-3 c = let b = all-read (c .before .before .before .before) in omega arith
 
 shared-slice-read-word-4 : tie.Need-shared-slice-read-word-4
-shared-slice-read-word-4 c = search needs
+shared-slice-read-word-4 c = let b = all-read (c .before .before .before .before .before) in omega arith
 
 word-requires-2 : tie.Need-word-requires-2
 word-requires-2 c κs = search needs
 
 shared-slice-read-t16 : tie.Need-shared-slice-read-t16
-shared-slice-read-t16 c = search needs
+shared-slice-read-t16 c = let b = all-read (c .before .before .before .before .before .before .before) in omega arith
 
 returns-5 : tie.Need-returns-5
 returns-5 c =

@@ -1,17 +1,17 @@
 use mathlib.Core.List.{List}
 use lib.Dec.{eqb}
 use Rattle.stream.specs.Event.{outcome}
-use Rattle.stream.specs.Call.{lentLeast, delivered}
+use Rattle.stream.specs.Call.{lentLeast}
 use Rattle.stream.proofs.PromiseOfStep.{shows, steps-spoilt, steps-no-room, steps-scan}
 use Rattle.stream.proofs.InPlaceIsStep.{whole-full, whole-sound}
-use Rattle.comlynx.specs.Wire.{Message, bodyMax}
+use Rattle.comlynx.specs.Wire.{bodyMax}
 use Rattle.comlynx.specs.Machine.{holding, next}
 use Rattle.comlynx.specs.Reader.{inRange, whole, header, number, told, shown}
-use Rattle.comlynx.specs.Inside.{eventOf, Small, given}
+use Rattle.comlynx.specs.Inside.{eventOf}
 use Rattle.comlynx.specs.declared.reader.Reader.{Reader}
 use Rattle.comlynx.specs.declared.reader.Answer.the-variants.{Refused}
 use Rattle.answers.specs.declared.Refusal.the-variants.{NoRoom, Spoilt}
-use Rattle.comlynx.proofs.JudgedIsDelivered.{number-told, delivers}
+use Rattle.comlynx.proofs.JudgedIsDelivered.{AnswerDelivers, number-told, end-delivers}
 use native.Mathlib.Omega.{arith}
 use Prim.Native.Nat.{ℕ, _≤_}
 use mathlib.Core.Path.{_≡_, refl, sym, _∙_, ap}
@@ -58,9 +58,8 @@ room c = omega (arith, c .before .before .if2 .left)
 abbrev ran : tie.After-judge → tie.After-run-in
 ran c = c .before .before .before .before
 
-judged : (c : tie.After-judge) → Small (c .judge .result)
-    × (given (c .judge .result) (held (ran c)) (start (ran c) .args .lent .now) ≡ delivered (λ (m : Message). m .payload) (outcome (eventOf (ran c .run-in .result .end) (held (ran c)))) (start (ran c) .args .lent .now))
-judged c = delivers (ran c .run-in .result .end) (held (ran c)) (start (ran c) .args .lent .now) (c .judge .result) (full (ran c)) (c .judge .ensures)
+judged : (c : tie.After-judge) → AnswerDelivers (held (ran c)) (start (ran c) .args .lent .now) (c .judge .result) (eventOf (ran c .run-in .result .end) (held (ran c)))
+judged c = end-delivers (ran c .run-in .result .end) (held (ran c)) (start (ran c) .args .lent .now) (c .judge .result) (full (ran c)) (c .judge .ensures)
 
 in-range-requires : tie.Need-in-range-requires
 in-range-requires c κs = search needs
@@ -86,7 +85,7 @@ judge-requires c κs = full (c .before .before .before)
 deliver-requires : tie.Need-deliver-requires
 deliver-requires c κs =
     let k = c .before .before in
-    (judged k .0, full (ran k), room (ran k))
+    (judged k .0, judged k .1, room (ran k))
 
 same-length : tie.Need-same-length
 same-length c = search needs
@@ -103,7 +102,7 @@ returns-3 c =
     let a = s .args in
     steps-scan next whole header (λ m. m .payload) shown (state s) (a .piece .now) (a .lent .now) _ (record { reader = after r; answer = k .judge .result; used = r .run-in .result .used }) _ (is-whole (r .before .before .before)) (room r) (r .run-in .ensures .scanned)
     (shows header (after r) (number (k .judge .result)) (told (k .judge .result)) (outcome (eventOf (r .run-in .result .end) (held r))) (r .run-in .result .used) (number-told (k .judge .result)) (k .judge .ensures))
-    (d .deliver .ensures ∙ judged k .1)
+    (d .deliver .ensures ∙ judged k .2)
     (whole-full (λ (t : Reader). t .held) bodyMax inRange (after r) (full r) ∙ r .run-in .ensures .ranged)
 
 pub step-in-place-spec : {M : Type 1} → statement M

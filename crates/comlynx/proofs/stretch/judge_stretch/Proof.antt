@@ -7,9 +7,9 @@ use Rattle.stream.specs.Call.{delivered, retold}
 use Rattle.comlynx.specs.Wire.{Message, bodyMax}
 use Rattle.comlynx.specs.Rules.{judge}
 use Rattle.comlynx.specs.Reader.{header}
-use Rattle.comlynx.specs.Inside.{eventOf, Small, given}
+use Rattle.comlynx.specs.Inside.{eventOf}
 use Rattle.comlynx.specs.declared.reader.Answer.the-variants.{Done, Refused}
-use Rattle.comlynx.proofs.JudgedIsDelivered.{delivers}
+use Rattle.comlynx.proofs.JudgedIsDelivered.{AnswerDelivers, end-delivers}
 use Rattle.comlynx.proofs.StretchJudged.{is-judged, no-room, empty, judged}
 use Prim.Native.Nat.{ℕ}
 use native.Mathlib.Omega.{arith}
@@ -31,10 +31,8 @@ full c = c .unstuff .ensures .0
 abbrev unstuffed : tie.After-judge → tie.After-unstuff
 unstuffed c = c .before .before .before
 
-deliverable : (c : tie.After-judge) → Small (c .judge .result)
-    × (given (c .judge .result) (held (unstuffed c)) (start (unstuffed c) .args .lent .now)
-    ≡ delivered (λ (m : Message). m .payload) (outcome (eventOf (unstuffed c .unstuff .result) (held (unstuffed c)))) (start (unstuffed c) .args .lent .now))
-deliverable c = delivers (unstuffed c .unstuff .result) (held (unstuffed c)) (start (unstuffed c) .args .lent .now) (c .judge .result) (full (unstuffed c)) (c .judge .ensures)
+deliverable : (c : tie.After-judge) → AnswerDelivers (held (unstuffed c)) (start (unstuffed c) .args .lent .now) (c .judge .result) (eventOf (unstuffed c .unstuff .result) (held (unstuffed c)))
+deliverable c = end-delivers (unstuffed c .unstuff .result) (held (unstuffed c)) (start (unstuffed c) .args .lent .now) (c .judge .result) (full (unstuffed c)) (c .judge .ensures)
 
 returns : tie.Need-returns
 returns c =
@@ -64,7 +62,7 @@ slice-aggregate-deliver c = search needs
 deliver-requires : tie.Need-deliver-requires
 deliver-requires c κs =
     let k = c .before .before in
-    (deliverable k .0, full (unstuffed k), omega arith)
+    (deliverable k .0, deliverable k .1, omega arith)
 
 same-length : tie.Need-same-length
 same-length c = search needs
@@ -78,7 +76,7 @@ returns-3 c =
     let is = ap outcome (u .unstuff .ensures .1) in
     is-judged (a .stretch .now) (a .lent .now) _ (k .judge .result) (gives (judge (a .stretch .now))) (judged (a .stretch .now) (a .lent .now) (omega arith) (u .before .before .if2 .left))
     (k .judge .ensures ∙ ap (retold header) is)
-    (d .deliver .ensures ∙ deliverable k .1 ∙ ap (λ (t : Told Message). delivered (λ (m : Message). m .payload) t (a .lent .now)) is)
+    (d .deliver .ensures ∙ deliverable k .2 ∙ ap (λ (t : Told Message). delivered (λ (m : Message). m .payload) t (a .lent .now)) is)
 
 pub judge-stretch-spec : {M : Type 1} → statement M
 judge-stretch-spec =
