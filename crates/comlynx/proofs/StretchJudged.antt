@@ -13,6 +13,7 @@ use Rattle.comlynx.specs.Wire.{Message}
 use Rattle.comlynx.specs.Rules.{judge}
 use Rattle.comlynx.specs.Reader.{number, told, header}
 use Rattle.comlynx.specs.Stretch.{judgedWhole, IsJudged}
+use Rattle.comlynx.specs.Inside.{Settles}
 use Rattle.comlynx.specs.declared.reader.Answer.{Answer}
 use Rattle.comlynx.proofs.JudgedIsDelivered.{number-told}
 
@@ -31,3 +32,6 @@ empty stretch lent h e = rw (le-ltb (length lent) lentLeast h, eq-eqb (length st
 
 pub judged : (stretch lent : List ℕ) → lentLeast ≤ length lent → (length stretch ≡ 0 → ⊥) → judgedWhole stretch lent ≡ gives (judge stretch)
 judged stretch lent h n = rw (le-ltb (length lent) lentLeast h, ne-eqb (length stretch) 0 n)
+
+pub settled : (stretch lent later : List ℕ) (r : Answer) → lentLeast ≤ length lent → (length stretch ≡ 0 → ⊥) → Settles stretch lent r later → IsJudged stretch lent r later
+settled stretch lent later r h n s = is-judged stretch lent later r (gives (judge stretch)) (judged stretch lent h n) (s .0) (s .1)

@@ -1,12 +1,12 @@
 -- A stretch taken in by parts: what is held of its body, and what the rest of it stands for.
 -- Assumes nothing.
-use Prim.Native.Nat.{ℕ, suc, _+_, _≤_, _<_}
+use Prim.Native.Nat.{ℕ, suc, min, _+_, _-_, _≤_, _<_}
 use mathlib.Core.Path.{_≡_, refl, sym, ap, ap₂, _∙_, subst}
 use mathlib.Core.Bool.{Bool, true, false, cond}
 use mathlib.Core.Option.{Option, none, some}
 use mathlib.Core.List.{List, [], _∷_, _++_, append-nil, append-assoc}
 use lib.ListN.{length, take, drop, getD, set, length-append, length-set, drop-of-length-le, List·getD-eq-default}
-use lib.Seq.{drop-cons, sets, take-suc-set}
+use lib.Seq.{drop-cons, sets, take-suc-set, take-all}
 use lib.Dec.{eqb}
 use borrow.Author.Tests.{ne-eqb}
 use native.Mathlib.Nat.{lt-of-not-le}
@@ -17,14 +17,14 @@ use Rattle.comlynx_checksum.specs.Checksum.{agrees}
 use Rattle.comlynx.specs.Wire.{flag, escape, flagPair, escapePair, bodyMax}
 use Rattle.comlynx.specs.Rules.{withFirst, unstuffed, judged, judgedBody, lostOf, judge}
 use Rattle.comlynx.specs.Machine.{tooMany, closed}
-use Rattle.comlynx.specs.Inside.{Searched, Held, Keeps, pairAt, Unstuffs}
+use Rattle.comlynx.specs.Inside.{Absent, Searched, Held, Keeps, pairAt, Unstuffs}
 use Rattle.comlynx.specs.declared.reader.End.the-variants.{Closed, Broken}
 use Rattle.comlynx.proofs.SearchedParts.{Without, part, searched-without, part-left}
 use Rattle.comlynx.proofs.MachineFollowsRule.{ahead, ahead-front, too-long}
 
 -- ---- what is held
 
-pub held-none : (held : List ℕ) → length held ≡ bodyMax → Held 0 held []
+held-none : (held : List ℕ) → length held ≡ bodyMax → Held 0 held []
 held-none held w = record { wide = w; counted = omega arith; same = λ h. refl }
 
 -- one more, while there is room
@@ -59,17 +59,21 @@ held-over part count held u lt h =
     record { wide = h .wide; counted = omega (arith, e); same = λ le. absurd (omega (arith, e)) }
 
 -- so what is held is judged as the whole
-held-closed : (came count : ℕ) (held u : List ℕ) → Held count held u → closed came count held ≡ judged came (length u) (agrees u) u
+counted-closed : (came count : ℕ) (held u : List ℕ) → count ≡ min (length u) tooMany → (length u ≤ bodyMax → take count held ≡ u)
+    → closed came count held ≡ judged came (length u) (agrees u) u
 unfolding judged
-held-closed came count held u h =
+counted-closed came count held u counted same =
     elim (decLe (length u) bodyMax) [
       | yes y ↦ (
-          let c : count ≡ length u = omega (arith, h .counted) in
-          ap₂ (λ (n : ℕ) (l : List ℕ). judged came n (agrees l) l) c (h .same y))
+          let c : count ≡ length u = omega (arith, counted) in
+          ap₂ (λ (n : ℕ) (l : List ℕ). judged came n (agrees l) l) c (same y))
       | no y ↦ (
           let lt : bodyMax < length u = lt-of-not-le y in
-          rw (too-long count (omega (arith, h .counted)), too-long (length u) lt))
+          rw (too-long count (omega (arith, counted)), too-long (length u) lt))
     ]
+
+held-closed : (came count : ℕ) (held u : List ℕ) → Held count held u → closed came count held ≡ judged came (length u) (agrees u) u
+held-closed came count held u h = counted-closed came count held u (h .counted) (h .same)
 
 -- ---- what a part of it stands for
 
@@ -86,6 +90,15 @@ unstuffed-part [] rest g = sym (ahead-nil (unstuffed false rest))
     ahead-nil (some v) = refl
 unstuffed-part (b ∷ w) rest g =
     rw (ne-eqb b escape (g .0)) (ap (withFirst b) (unstuffed-part w rest (g .1)) ∙ front-ahead b w (unstuffed false rest))
+
+-- so a stretch without one is its own body, and is judged as that
+pub plain-judged : (s : List ℕ) (n came : ℕ) → Absent escape s 0 (length s) → n ≡ min (length s) tooMany → came ≡ lostOf s → closed came n s ≡ judge s
+unfolding judge
+plain-judged s n came a e c =
+    let none-there : Without escape s = subst (Without escape) (take-all (length s - 0) s (omega arith)) (searched-without escape s 0 (length s) (omega arith, omega arith, a)) in
+    let itself : unstuffed false s ≡ some s =
+    ap (unstuffed false) (sym (append-nil s)) ∙ unstuffed-part s [] none-there ∙ ap some (append-nil s) in
+    counted-closed came n s s e (λ h. take-all n s (omega (arith, e))) ∙ ap₂ judgedBody c (sym itself)
 
 -- an escape, and what follows it
 abbrev paired : ℕ → Option (List ℕ) → Option (List ℕ)
@@ -116,6 +129,14 @@ pair-means s j h e = ap (unstuffed false) (drop-cons s j 0 h) ∙ ap (λ (b : �
               ∙ sym (ap (λ (x : ℕ). paired (cond (eqb x flagPair) flag (cond (eqb x escapePair) escape 0)) (unstuffed false (drop (j + 2) s))) (List·getD-eq-default s 0 {n = j + 1} (omega arith))))
         ]
 
+-- a pair that stands for a byte stands inside the stretch
+pub pair-within : (s : List ℕ) (j v : ℕ) → v ≡ pairAt s j → (v ≡ 0 → ⊥) → j + 2 ≤ length s
+pair-within s j v p n =
+    elim (decLe (j + 2) (length s)) [
+      | yes y ↦ y
+      | no y ↦ absurd (n (p ∙ ap (λ (x : ℕ). cond (eqb x flagPair) flag (cond (eqb x escapePair) escape 0)) (List·getD-eq-default s 0 {n = j + 1} (omega arith))))
+    ]
+
 -- ---- so far: of the body that the stretch s stands for a front is held, and from i on it stands for the rest
 
 pub record SoFar (s : List ℕ) (count : ℕ) (held : List ℕ) (i : ℕ) : Type 0 where
@@ -127,7 +148,7 @@ ahead-ahead : (u w : List ℕ) (o : Option (List ℕ)) → ahead u (ahead w o) �
 ahead-ahead u w none = refl
 ahead-ahead u w (some v) = ap some (sym (append-assoc u w v))
 
-pub so-far-none : (s held : List ℕ) → length held ≡ bodyMax → SoFar s 0 held 0
+so-far-none : (s held : List ℕ) → length held ≡ bodyMax → SoFar s 0 held 0
 so-far-none s held w = record { front = []; holds = held-none held w; means = unstuffed-part [] s tt }
 
 pub so-far-part : (s : List ℕ) (count : ℕ) (held : List ℕ) (i j : ℕ) (r : ℕ) (later : List ℕ) → SoFar s count held i → Searched escape s i j → Keeps count held (part i j s) r later → SoFar s r later j
@@ -140,6 +161,12 @@ so-far-part s count held i j r later f g k =
           ∙ ap (ahead (f .front)) (ap (unstuffed false) (part-left s i j (g .0)) ∙ unstuffed-part (part i j s) (drop j s) (searched-without escape s i j g))
           ∙ ahead-ahead (f .front) (part i j s) (unstuffed false (drop j s));
     }
+
+-- the first part
+pub so-far-first : (s held : List ℕ) (j r : ℕ) (later : List ℕ) → length held ≡ bodyMax → Searched escape s 0 j → Keeps 0 held (take j s) r later → SoFar s r later j
+so-far-first s held j r later w g k =
+    let e : j ≡ j - 0 = omega arith in
+    so-far-part s 0 held 0 j r later (so-far-none s held w) g (subst (λ (n : ℕ). Keeps 0 held (take n s) r later) e k)
 
 pub so-far-pair : (s : List ℕ) (count : ℕ) (held : List ℕ) (j v : ℕ) (r : ℕ) (later : List ℕ) → SoFar s count held j → j < length s → getD s j 0 ≡ escape → v ≡ pairAt s j → (v ≡ 0 → ⊥)
     → Keeps count held (v ∷ []) r later → SoFar s r later (j + 2)

@@ -7,7 +7,7 @@ use mathlib.Core.List.{List, [], _∷_, _++_}
 use lib.ListN.{length, take, drop, getD}
 use lib.Seq.{sets}
 use lib.Dec.{eqb}
-use Rattle.stream.specs.Event.{Event, damage}
+use Rattle.stream.specs.Event.{Event, damage, gives}
 use Rattle.stream.specs.Event as Event
 use Rattle.stream.specs.Call.{retold, delivered}
 use Rattle.stream.specs.Pieces.{scan, scanFrom}
@@ -116,6 +116,10 @@ pairAt s at =
 -- `unstuff`: the end tells what the stretch comes to
 abbrev pub Unstuffs : List ℕ → End → List ℕ → Type 0
 Unstuffs stretch end held = (length held ≡ bodyMax) × (eventOf end held ≡ some (judge stretch))
+
+-- `judge_stuffed` and `judge_plain`: what the stretch comes to is told and handed over
+abbrev pub Settles : List ℕ → List ℕ → Answer → List ℕ → Type 0
+Settles stretch lent r later = JudgedAs (some (judge stretch)) r × (later ≡ delivered (λ (m : Message). m .payload) (gives (judge stretch)) lent)
 
 -- ---- a slice
 

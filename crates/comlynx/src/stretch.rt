@@ -1,6 +1,7 @@
 // One whole stretch, the bytes between two successive flags: unstuffed, judged and handed over, with no state before or after it.
 //
-// What a stretch stands for is taken in by parts: up to the next escape all bytes stand for themselves.
+// Most have no escape, and such a stretch is judged where it lies. What any other stands for is taken in by parts: up to the next escape all bytes
+// stand for themselves.
 use crate::reader::Answer;
 use crate::reader::ESCAPE;
 use crate::reader::ESCAPE_PAIR;
@@ -12,17 +13,20 @@ use crate::reader::Reader;
 use crate::reader::TOO_MANY;
 use crate::reader::deliver;
 use crate::reader::judge;
+use crate::reader::judge_closed;
 use crate::search::byte_from;
 use answers::Refusal;
 use numbers::least;
-ghost use Prim.Native.Nat.{_<_, _≤_};
+ghost use Prim.Native.Nat.{min, _<_, _≤_};
 ghost use mathlib.Core.Path.{_≡_};
 ghost use mathlib.Core.List.{[], _∷_};
 ghost use lib.ListN.{length};
-ghost use Rattle.comlynx.specs.Wire.{bodyMax};
+ghost use Rattle.stream.specs.Call.{lentLeast};
+ghost use Rattle.comlynx.specs.Wire.{escape, bodyMax};
+ghost use Rattle.comlynx.specs.Rules.{lostMax};
 ghost use Rattle.comlynx.specs.Machine.{tooMany};
 ghost use Rattle.comlynx.specs.Stretch.{IsJudged};
-ghost use Rattle.comlynx.specs.Inside.{Keeps, pairAt, Unstuffs};
+ghost use Rattle.comlynx.specs.Inside.{Absent, FirstAt, Keeps, pairAt, Unstuffs, Settles};
 
 // Takes in bytes that stand for themselves, where there is room for all of them. Gives how many are held then, or TOO_MANY: a stretch that has
 // more than a body may have is a damage, whatever is held of it.
@@ -70,28 +74,56 @@ fn pair_at(stretch: &[u8], at: usize) -> u8
     0
 }
 
-// Unstuffs a stretch into `held`, and says how it ends. It is searched for a broken pair to its end, however long it is.
-fn unstuff(stretch: &[u8], held: &mut [u8]) -> End
-    requires { ⌜ length (now held) ≡ bodyMax ⌝ }
+// So many bytes came, LOST_MAX standing for that or more.
+fn came_of(n: usize) -> u16
+    ensures { λ r. ⌜ r ≡ min n lostMax ⌝ }
+{
+    least(n, LOST_MAX as usize) as u16
+}
+
+// Unstuffs a stretch into `held`, and says how it ends; its first escape stands at `first`. It is searched for a broken pair to its end, however
+// long it is.
+fn unstuff(stretch: &[u8], first: usize, held: &mut [u8]) -> End
+    requires { ⌜ FirstAt escape (now stretch) 0 first × (length (now held) ≡ bodyMax) ⌝ }
     ensures { λ r. ⌜ Unstuffs (now (stretch .entry)) r (now (held .exit)) ⌝ }
 {
-    let came = least(stretch.len(), LOST_MAX as usize) as u16;
-    let mut count: usize = 0;
-    let mut i: usize = 0;
+    let came = came_of(stretch.len());
+    let mut count = keep_part(0, held, &stretch[..first]);
+    let mut i = first;
     while i < stretch.len() {
-        let j = byte_from(ESCAPE, stretch, i);
-        count = keep_part(count, held, &stretch[i..j]);
-        i = j;
-        if j < stretch.len() {
-            let v = pair_at(stretch, j);
-            if v == 0 {
-                return End::Broken { came };
-            }
-            count = keep_one(count, held, v);
-            i = j + 2;
+        let v = pair_at(stretch, i);
+        if v == 0 {
+            return End::Broken { came };
         }
+        let more = keep_one(count, held, v);
+        let next = i + 2;
+        i = byte_from(ESCAPE, stretch, next);
+        count = keep_part(more, held, &stretch[next..i]);
     }
     End::Closed { count, came }
+}
+
+// Judges a stretch whose first escape stands at `first`, and hands its data over. It is unstuffed for that.
+fn judge_stuffed(stretch: &[u8], first: usize, lent: &mut [u8]) -> Answer
+    requires { ⌜ FirstAt escape (now stretch) 0 first × (lentLeast ≤ length (now lent)) ⌝ }
+    ensures { λ r. ⌜ Settles (now (stretch .entry)) (now (lent .entry)) r (now (lent .exit)) ⌝ }
+{
+    let mut held = [0; Reader::BODY];
+    let end = unstuff(stretch, first, &mut held);
+    let answer = judge(end, &held);
+    deliver(answer, &held, lent);
+    answer
+}
+
+// The same of a stretch without an escape. It is its own body, so none of it is copied but the data.
+fn judge_plain(stretch: &[u8], lent: &mut [u8]) -> Answer
+    requires { ⌜ Absent escape (now stretch) 0 (length (now stretch)) × (lentLeast ≤ length (now lent)) ⌝ }
+    ensures { λ r. ⌜ Settles (now (stretch .entry)) (now (lent .entry)) r (now (lent .exit)) ⌝ }
+{
+    let count = least(stretch.len(), TOO_MANY);
+    let answer = judge_closed(count, came_of(stretch.len()), stretch);
+    deliver(answer, stretch, lent);
+    answer
 }
 
 // Judges one whole stretch, handed over without its flags. With a message its data stand at the front of `lent`; an empty stretch gives nothing.
@@ -104,9 +136,9 @@ pub fn judge_stretch(stretch: &[u8], lent: &mut [u8]) -> Answer
     if stretch.len() == 0 {
         return Answer::Done;
     }
-    let mut held = [0; Reader::BODY];
-    let end = unstuff(stretch, &mut held);
-    let answer = judge(end, &held);
-    deliver(answer, &held, lent);
-    answer
+    let first = byte_from(ESCAPE, stretch, 0);
+    if first < stretch.len() {
+        return judge_stuffed(stretch, first, lent);
+    }
+    judge_plain(stretch, lent)
 }

@@ -1,38 +1,12 @@
-use mathlib.Core.Path.{_≡_, refl, ap, _∙_}
-use mathlib.Core.List.{List}
-use lib.ListN.{length}
+use mathlib.Core.Path.{refl}
 use Rattle.answers.specs.declared.Refusal.the-variants.{NoRoom}
-use Rattle.stream.specs.Event.{Told, done, gives, refuses, outcome}
-use Rattle.stream.specs.Call.{delivered, retold}
-use Rattle.comlynx.specs.Wire.{Message, bodyMax}
-use Rattle.comlynx.specs.Rules.{judge}
-use Rattle.comlynx.specs.Reader.{header}
-use Rattle.comlynx.specs.Inside.{eventOf}
+use Rattle.stream.specs.Event.{done, refuses}
 use Rattle.comlynx.specs.declared.reader.Answer.the-variants.{Done, Refused}
-use Rattle.comlynx.proofs.JudgedIsDelivered.{AnswerDelivers, end-delivers}
-use Rattle.comlynx.proofs.StretchJudged.{is-judged, no-room, empty, judged}
-use Prim.Native.Nat.{ℕ}
+use Rattle.comlynx.proofs.StretchJudged.{is-judged, no-room, empty, settled}
 use native.Mathlib.Omega.{arith}
 use borrow.Author.Needs.{needs}
 use Rattle.comlynx.proofs.stretch.judge_stretch.Statement.{statement}
 use Rattle.comlynx.proofs.stretch.judge_stretch.Tie as tie
-
--- the stretch is unstuffed: the call's start, and what is held
-abbrev start : tie.After-unstuff → tie.Start
-start c = c .before .before .before .before .before .before
-
-abbrev held : tie.After-unstuff → List ℕ
-held c = c .unstuff .last .1 .0
-
-full : (c : tie.After-unstuff) → length (held c) ≡ bodyMax
-full c = c .unstuff .ensures .0
-
--- it is judged: what the answer delivers
-abbrev unstuffed : tie.After-judge → tie.After-unstuff
-unstuffed c = c .before .before .before
-
-deliverable : (c : tie.After-judge) → AnswerDelivers (held (unstuffed c)) (start (unstuffed c) .args .lent .now) (c .judge .result) (eventOf (unstuffed c .unstuff .result) (held (unstuffed c)))
-deliverable c = end-delivers (unstuffed c .unstuff .result) (held (unstuffed c)) (start (unstuffed c) .args .lent .now) (c .judge .result) (full (unstuffed c)) (c .judge .ensures)
 
 returns : tie.Need-returns
 returns c =
@@ -44,39 +18,37 @@ returns-2 c =
     let a = c .before .before .before .before .args in
     is-judged (a .stretch .now) (a .lent .now) (a .lent .now) Done done (empty (a .stretch .now) (a .lent .now) (omega arith) (c .if2 .taken)) refl refl
 
-slice-aggregate-unstuff : tie.Need-slice-aggregate-unstuff
-slice-aggregate-unstuff c = search needs
+byte-from-requires : tie.Need-byte-from-requires
+byte-from-requires c κs = search needs
 
-unstuff-requires : tie.Need-unstuff-requires
-unstuff-requires c κs = search needs
-
-slice-aggregate-judge : tie.Need-slice-aggregate-judge
-slice-aggregate-judge c = search needs
-
-judge-requires : tie.Need-judge-requires
-judge-requires c κs = full (c .before .before)
-
-slice-aggregate-deliver : tie.Need-slice-aggregate-deliver
-slice-aggregate-deliver c = search needs
-
-deliver-requires : tie.Need-deliver-requires
-deliver-requires c κs =
-    let k = c .before .before in
-    (deliverable k .0, deliverable k .1, omega arith)
+judge-stuffed-requires : tie.Need-judge-stuffed-requires
+judge-stuffed-requires c κs = (c .before .before .byte-from .ensures, omega arith)
 
 same-length : tie.Need-same-length
 same-length c = search needs
 
 returns-3 : tie.Need-returns-3
 returns-3 c =
-    let d = c .before .before in
-    let k = d .before .before .before in
-    let u = unstuffed k in
-    let a = start u .args in
-    let is = ap outcome (u .unstuff .ensures .1) in
-    is-judged (a .stretch .now) (a .lent .now) _ (k .judge .result) (gives (judge (a .stretch .now))) (judged (a .stretch .now) (a .lent .now) (omega arith) (u .before .before .if2 .left))
-    (k .judge .ensures ∙ ap (retold header) is)
-    (d .deliver .ensures ∙ deliverable k .2 ∙ ap (λ (t : Told Message). delivered (λ (m : Message). m .payload) t (a .lent .now)) is)
+    let j = c .before .before in
+    let e = j .before .before .before .before in
+    let a = e .before .before .before .before .args in
+    settled (a .stretch .now) (a .lent .now) _ (j .judge-stuffed .result) (omega arith) (e .if2 .left) (j .judge-stuffed .ensures)
+
+-- the search came to the end
+judge-plain-requires : tie.Need-judge-plain-requires
+judge-plain-requires c κs =
+    let f = c .before .before .byte-from .ensures .0 .2 in
+    (λ k i j. f k i (omega arith), omega arith)
+
+same-length-2 : tie.Need-same-length-2
+same-length-2 c = search needs
+
+returns-4 : tie.Need-returns-4
+returns-4 c =
+    let j = c .before .before in
+    let e = j .before .before .before .before in
+    let a = e .before .before .before .before .args in
+    settled (a .stretch .now) (a .lent .now) _ (j .judge-plain .result) (omega arith) (e .if2 .left) (j .judge-plain .ensures)
 
 pub judge-stretch-spec : {M : Type 1} → statement M
 judge-stretch-spec =
@@ -84,11 +56,10 @@ judge-stretch-spec =
     (tie.spec
     returns
     returns-2
-    slice-aggregate-unstuff
-    unstuff-requires
-    slice-aggregate-judge
-    judge-requires
-    slice-aggregate-deliver
-    deliver-requires
+    byte-from-requires
+    judge-stuffed-requires
     same-length
-    returns-3)
+    returns-3
+    judge-plain-requires
+    same-length-2
+    returns-4)
