@@ -146,8 +146,8 @@ fn outcome_of_a_stretch(stretch: &[u8]) -> Outcome<comlynx::Message> {
     losing(lost_at_most_65_535(stretch), judge_stretch(stretch))
 }
 
-/// The state that the checksum's rule ends with over a body whose last two bytes are its right
-/// checksum (RFC 1662, the good final FCS value).
+/// The state that the checksum's rule ends with over a body and its own right checksum: it is the
+/// same for every body.
 const RIGHT_CHECKSUM: u16 = 0xF0B8;
 
 /// "every 7D is followed inside the stretch by 5E or 5D, else 2; the unstuffed body has 10 to 265
