@@ -1,0 +1,52 @@
+-- `folded_all`: reads no byte past the end, and ends.
+-- Assumes nothing.
+use Prim.Native.Nat.{_-_, _≤_}
+use lib.ListN.{length}
+use borrow.Author.Needs.{needs}
+use Rattle.test_day.proofs.lines.folded_all.Statement.{statement}
+use Rattle.test_day.proofs.lines.folded_all.Tie as tie
+
+abbrev Inv-loop : tie.InvT-loop
+Inv-loop check s all₀ i₀ all i = i ≤ length s
+
+abbrev μ-loop : tie.MeasureT-loop
+μ-loop check s all₀ i₀ all i = length s - i
+
+loop-holds : tie.Need-loop-holds Inv-loop μ-loop
+loop-holds c = search needs
+
+shared-slice-read-wide : tie.Need-shared-slice-read-wide Inv-loop μ-loop
+shared-slice-read-wide c = search needs
+
+wide-requires : tie.Need-wide-requires Inv-loop μ-loop
+wide-requires c κs = search needs
+
+folded-requires : tie.Need-folded-requires Inv-loop μ-loop
+folded-requires c κs = search needs
+
+add-i : tie.Need-add-i Inv-loop μ-loop
+add-i c = search needs
+
+loop-less : tie.Need-loop-less Inv-loop μ-loop
+loop-less c = search needs
+
+loop-again : tie.Need-loop-again Inv-loop μ-loop
+loop-again c = search needs
+
+returns : tie.Need-returns Inv-loop μ-loop
+returns c = search needs
+
+pub folded-all-spec : {M : Type 1} → statement M
+folded-all-spec =
+    tie.close
+    (tie.spec
+    Inv-loop
+    μ-loop
+    loop-holds
+    shared-slice-read-wide
+    wide-requires
+    folded-requires
+    add-i
+    loop-less
+    loop-again
+    returns)
