@@ -87,7 +87,7 @@ given answer = Delivery.given (λ (h : Header). h .len) 8 (told answer)
 abbrev pub Absent : ℕ → List ℕ → ℕ → ℕ → Type 0
 Absent b s from to = (k : ℕ) → from ≤ k → k < to → getD s k 0 ≡ b → ⊥
 
--- `past_runs`: passed over such bytes
+-- `past_runs` and `past_half`: passed over such bytes
 abbrev pub Searched : ℕ → List ℕ → ℕ → ℕ → Type 0
 Searched b s from r = (from ≤ r) × (r ≤ length s) × Absent b s from r
 

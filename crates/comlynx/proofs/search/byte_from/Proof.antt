@@ -16,8 +16,14 @@ abbrev μ-loop : tie.MeasureT-loop
 past-runs-requires : tie.Need-past-runs-requires Inv-loop μ-loop
 past-runs-requires c κs = search needs
 
+past-half-requires : tie.Need-past-half-requires Inv-loop μ-loop
+past-half-requires c κs = search needs
+
 loop-holds : tie.Need-loop-holds Inv-loop μ-loop
-loop-holds c = c .past-runs .ensures
+loop-holds c =
+    let r = c .before in
+    let a = r .before .before .args in
+    searched-on (a .b) (a .s .now) (a .from) (r .past-runs .result) _ (r .past-runs .ensures) (c .past-half .ensures)
 
 shared-slice-read-if1 : tie.Need-shared-slice-read-if1 Inv-loop μ-loop
 shared-slice-read-if1 c = search needs
@@ -31,7 +37,7 @@ loop-less c = search needs
 loop-again : tie.Need-loop-again Inv-loop μ-loop
 loop-again c =
     let l = c .before .before .before .loop in
-    let a = c .before .before .before .before .before .before .args in
+    let a = c .before .before .before .before .before .before .before .args in
     searched-on (a .b) (a .s .now) (a .from) (l .i) _ (l .inv) (omega arith, omega arith, absent-one (a .b) (a .s .now) (l .i) (c .if1 .left))
 
 returns : tie.Need-returns Inv-loop μ-loop
@@ -47,6 +53,7 @@ byte-from-spec =
     Inv-loop
     μ-loop
     past-runs-requires
+    past-half-requires
     loop-holds
     shared-slice-read-if1
     add-i

@@ -1,4 +1,4 @@
-use Rattle.comlynx.specs.Inside.{runLength, Absent}
+use Rattle.comlynx.specs.Inside.{Absent}
 use Rattle.comlynx.proofs.SearchedParts.{absent-tested}
 use native.Mathlib.Omega.{arith}
 use Prim.Native.Nat.{_+_, _-_, _≤_}
@@ -9,10 +9,10 @@ use Rattle.comlynx.proofs.search.clear.Statement.{statement}
 use Rattle.comlynx.proofs.search.clear.Tie as tie
 
 abbrev Inv-loop : tie.InvT-loop
-Inv-loop b s at good₀ k₀ good k = (k ≤ runLength) × (good ≡ true → Absent b s at (at + k))
+Inv-loop b s at n good₀ k₀ good k = (k ≤ n) × (good ≡ true → Absent b s at (at + k))
 
 abbrev μ-loop : tie.MeasureT-loop
-μ-loop b s at good₀ k₀ good k = runLength - k
+μ-loop b s at n good₀ k₀ good k = n - k
 
 loop-holds : tie.Need-loop-holds Inv-loop μ-loop
 loop-holds c = (omega arith, λ e j h i. absurd (omega arith))
