@@ -133,9 +133,9 @@ PastFlags s from r =
     (from ≤ r) × (r ≤ length s) × ((at : ℕ) → within at [] (drop from s) ≡ within (at + (r - from)) [] (drop r s))
     × (r < length s → getD s r 0 ≡ flag → ⊥)
 
--- `find`: what the rule finds from the place
-abbrev pub Finds : List ℕ → ℕ → List ℕ → Found → List ℕ → Type 0
-Finds slice place lent r later =
+-- `answer_from`: what the rule finds from the place
+abbrev pub AnswerFrom : List ℕ → ℕ → List ℕ → Found → List ℕ → Type 0
+AnswerFrom slice place lent r later =
     let a = answered place (length slice) (rule (knownAt slice place) (drop place slice)) in
     (shown r ≡ Slice.retells header a) × (later ≡ delivered (λ (m : Message). m .payload) (a .told) lent)
 

@@ -11,7 +11,7 @@ ghost use mathlib.Core.Path.{_≡_};
 ghost use lib.ListN.{length};
 ghost use Rattle.stream.specs.Call.{lentLeast};
 ghost use Rattle.comlynx.specs.Slice.{knownAt, IsAnswerAt};
-ghost use Rattle.comlynx.specs.Inside.{Opened, PastFlags, Finds};
+ghost use Rattle.comlynx.specs.Inside.{Opened, PastFlags, AnswerFrom};
 
 // The most bytes that a slice may have.
 pub const SLICE: usize = 65536;
@@ -60,9 +60,9 @@ fn past_flags(slice: &[u8], from: usize) -> usize
 }
 
 // The first stretch from a place on that is not empty, judged.
-fn find(slice: &[u8], place: usize, lent: &mut [u8]) -> Found
+fn answer_from(slice: &[u8], place: usize, lent: &mut [u8]) -> Found
     requires { ⌜ (place ≤ length (now slice)) × (lentLeast ≤ length (now lent)) ⌝ }
-    ensures { λ r. ⌜ Finds (now (slice .entry)) place (now (lent .entry)) r (now (lent .exit)) ⌝ }
+    ensures { λ r. ⌜ AnswerFrom (now (slice .entry)) place (now (lent .entry)) r (now (lent .exit)) ⌝ }
 {
     let first = past_flags(slice, opened(slice, place));
     let close = byte_from(FLAG, slice, first);
@@ -97,5 +97,5 @@ pub fn answer_at(slice: &[u8], place: usize, lent: &mut [u8]) -> Found
         let answer = Answer::Refused(Refusal::NoRoom);
         return Found { answer, place: 0 };
     }
-    find(slice, place, lent)
+    answer_from(slice, place, lent)
 }

@@ -25,8 +25,8 @@ returns-3 c =
     let a = c .before .before .before .before .before .args in
     answers-no-room rule knownAt header (λ m. m .payload) shown (a .slice .now) (a .lent .now) (a .place) (record { answer = Refused NoRoom; place = 0 }) (omega arith) (omega arith) (omega arith) refl
 
-find-requires : tie.Need-find-requires
-find-requires c κs = search needs
+answer-from-requires : tie.Need-answer-from-requires
+answer-from-requires c κs = search needs
 
 same-length : tie.Need-same-length
 same-length c = search needs
@@ -35,7 +35,7 @@ returns-4 : tie.Need-returns-4
 returns-4 c =
     let k = c .before .before in
     let a = k .before .before .before .before .before .before .before .args in
-    answers-rule rule knownAt header (λ m. m .payload) shown (a .slice .now) (a .lent .now) _ (a .place) (k .find .result) _ (omega arith) (omega arith) (omega arith) refl (k .find .ensures .0) (k .find .ensures .1)
+    answers-rule rule knownAt header (λ m. m .payload) shown (a .slice .now) (a .lent .now) _ (a .place) (k .answer-from .result) _ (omega arith) (omega arith) (omega arith) refl (k .answer-from .ensures .0) (k .answer-from .ensures .1)
 
 pub answer-at-spec : {M : Type 1} → statement M
-answer-at-spec = tie.close (tie.spec returns returns-2 returns-3 find-requires same-length returns-4)
+answer-at-spec = tie.close (tie.spec returns returns-2 returns-3 answer-from-requires same-length returns-4)

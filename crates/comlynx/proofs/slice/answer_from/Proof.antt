@@ -11,7 +11,7 @@ use Rattle.comlynx.specs.Wire.{Message}
 use Rattle.comlynx.specs.Rules.{judge, rule}
 use Rattle.comlynx.specs.Reader.{number, told, header}
 use Rattle.comlynx.specs.Slice.{knownAt, shown}
-use Rattle.comlynx.specs.Inside.{Finds}
+use Rattle.comlynx.specs.Inside.{AnswerFrom}
 use Rattle.comlynx.specs.declared.reader.Header.{Header}
 use Rattle.comlynx.specs.declared.reader.Answer.{Answer}
 use Rattle.comlynx.specs.declared.reader.Answer.the-variants.{Done}
@@ -22,13 +22,13 @@ use Rattle.comlynx.proofs.FlagsSearched.{none-found, one-found, some-be
 use Prim.Native.Nat.{ℕ, _+_, _-_}
 use native.Mathlib.Omega.{arith}
 use borrow.Author.Needs.{needs}
-use Rattle.comlynx.proofs.slice.find.Statement.{statement}
-use Rattle.comlynx.proofs.slice.find.Tie as tie
+use Rattle.comlynx.proofs.slice.answer_from.Statement.{statement}
+use Rattle.comlynx.proofs.slice.answer_from.Tie as tie
 
 -- by what the rule finds
 by-found : (slice lent later : List ℕ) (place : ℕ) (r : Found) (o : Option (Settled (Event Message))) → rule (knownAt slice place) (drop place slice) ≡ o
     → shown r ≡ retells header (answered place (length slice) o) → later ≡ delivered (λ (m : Message). m .payload) (answered place (length slice) o .told) lent
-    → Finds slice place lent r later
+    → AnswerFrom slice place lent r later
 by-found slice lent later place r o e x y =
     subst (λ (p : Option (Settled (Event Message))). (shown r ≡ retells header (answered place (length slice) p)) × (later ≡ delivered (λ (m : Message). m .payload) (answered place (length slice) p .told) lent))
     (sym e) (x, y)
@@ -106,8 +106,8 @@ returns-2 c =
     (shows (j .judge-stretch .result) (close k + 1) (a .place + (close k + 1 - a .place)) (gives (judge w)) (is .0 ∙ ap Event.number whole) (is .1 ∙ ap (retold header) whole) (sym after))
     (is .2 ∙ ap (λ (t : Told Message). delivered (λ (m : Message). m .payload) t (a .lent .now)) whole)
 
-pub find-spec : {M : Type 1} → statement M
-find-spec =
+pub answer-from-spec : {M : Type 1} → statement M
+answer-from-spec =
     tie.close
     (tie.spec
     opened-requires
