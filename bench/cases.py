@@ -47,16 +47,18 @@ IN_PLACE = {
     ("drives", 37): (1.0, 0.6, 0.5, 0.5),
 }
 # by `answer_at`, beside C that searches for the frame edges too: 1.0 is asked for of ComLynx with 66 and 255 data bytes and of Eversolar, 1.2 of Fronius
-# and drives
+# and drives. Eversolar with 7 data bytes and Fronius with 28 are the worst lengths that were found, above what is asked for.
 SLICES = {
     ("comlynx", 0): 1.0,
     ("comlynx", 10): 0.8,
     ("comlynx", 66): 1.0,
     ("comlynx", 255): 1.0,
     ("eversolar", 0): 1.0,
+    ("eversolar", 7): 1.1,
     ("eversolar", 66): 1.0,
     ("eversolar", 255): 1.0,
     ("fronius", 0): 1.2,
+    ("fronius", 28): 1.3,
     ("fronius", 66): 1.2,
     ("fronius", 127): 1.2,
     ("drives", 0): 1.2,
