@@ -12,7 +12,7 @@ use Rattle.numbers.proofs.TestLaws.{both, by_test}
 use Rattle.stream.specs.Event.{Event}
 use Rattle.stream.specs.Pieces.{Moved}
 use Rattle.stream.specs.Written.{written}
-use Rattle.stream.proofs.CallsComeTo.{settled_before, after, settledIn}
+use Rattle.stream.proofs.CallsComeTo.{settled_before, after, settled_in}
 use Rattle.stream.proofs.AfterStorm as Storm
 use Rattle.stream.proofs.AfterStorm.{Opens}
 use Rattle.comlynx.specs.Wire.{Message, body_max, body, flag, stuffed, wire}
@@ -56,11 +56,11 @@ wide_after (b ∷ bs) s = wide_after bs (next s b).state ∙ (unfold next in wid
 -- ---- the flag that closes what a storm left open is the flag that opens the first message: from the start of a stretch it tells nothing
 
 flag_again : (at : ℕ) (s : Reader) (rest : List ℕ)
-    → settledIn next at s (flag ∷ rest) ≡ settled_before (next s flag).event (suc at) (settledIn next at (inside 0 0 s.held) (flag ∷ rest))
+    → settled_in next at s (flag ∷ rest) ≡ settled_before (next s flag).event (suc at) (settled_in next at (inside 0 0 s.held) (flag ∷ rest))
 flag_again at s rest =
     ap (settled_before (next s flag).event (suc at))
-    (ap (λ (v : Reader). settledIn next (suc at) v rest) (opened s)
-    ∙ sym (ap (λ (v : Moved Reader (Event Message)). settled_before v.event (suc at) (settledIn next (suc at) v.state rest)) (flag_empty 0 s.held)))
+    (ap (λ (v : Reader). settled_in next (suc at) v rest) (opened s)
+    ∙ sym (ap (λ (v : Moved Reader (Event Message)). settled_before v.event (suc at) (settled_in next (suc at) v.state rest)) (flag_empty 0 s.held)))
 
 -- from any state that has all its held bytes, whatever part of the messages has come
 opens : (s : Reader) → length s.held ≡ body_max → (ms : List Message) (n : ℕ) → Opens comlynx facts s (take n (written wire ms))
@@ -79,7 +79,7 @@ opens s w ms n = record {
     first_of (m ∷ ms) (suc n) = (next s flag).event
 
     comes : (ms : List Message) (n at : ℕ)
-        → settledIn next at s (take n (written wire ms)) ≡ settled_before (first_of ms n) (suc at) (settledIn next at (inside 0 0 s.held) (take n (written wire ms)))
+        → settled_in next at s (take n (written wire ms)) ≡ settled_before (first_of ms n) (suc at) (settled_in next at (inside 0 0 s.held) (take n (written wire ms)))
     comes ms zero at = refl
     comes [] (suc n) at = refl
     comes (m ∷ ms) (suc n) at = flag_again at s (take n ((stuffed (body m) ++ (flag ∷ [])) ++ written wire ms))

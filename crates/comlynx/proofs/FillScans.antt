@@ -10,7 +10,7 @@ use borrow.Author.Count.{below_more}
 use borrow.Author.Tests.{eqb-false}
 use native.Mathlib.Omega.{arith}
 use Rattle.numbers.proofs.Alike.{zero_is_one}
-use Rattle.stream.specs.Pieces.{scanFrom}
+use Rattle.stream.specs.Pieces.{scan_from}
 use Rattle.stream.proofs.LoopScans.{from_goes}
 use Rattle.comlynx.specs.Wire.{flag, escape, body_max}
 use Rattle.comlynx.specs.Machine.{inside, more, next}
@@ -29,7 +29,7 @@ filled_none c h p i hi hc =
       sized = refl;
       goes = λ came most.
           let f : came ≡ more came (i - i) = omega arith in
-          ap₂ (λ (r n : ℕ). scanFrom next (inside r n h) p i) f e;
+          ap₂ (λ (r n : ℕ). scan_from next (inside r n h) p i) f e;
     }
 
 pub filled_one : (c : ℕ) (h p : List ℕ) (i : ℕ) → i < length p → c < body_max → Plain (get_or p i 0) → Filled c h p i (i + 1) (set h c (get_or p i 0))
@@ -43,7 +43,7 @@ filled_one c h p i hi hc q =
       goes = λ came most.
           let f : more came 1 ≡ more came (i + 1 - i) = omega arith in
           from_goes next (inside came c h) (inside (more came 1) (c + 1) (set h c (get_or p i 0))) p i hi (keeps came c h (get_or p i 0) q.0 q.1 hc)
-          ∙ ap₂ (λ (r n : ℕ). scanFrom next (inside r n (set h c (get_or p i 0))) p (i + 1)) f e;
+          ∙ ap₂ (λ (r n : ℕ). scan_from next (inside r n (set h c (get_or p i 0))) p (i + 1)) f e;
     }
 
 pub filled_more : (c : ℕ) (h p : List ℕ) (i : ℕ) (j : ℕ) (k : List ℕ) (d m : ℕ) (l : List ℕ) → d ≡ c + (j - i) → Filled c h p i j k → Filled d k p j m l → Filled c h p i m l
@@ -58,9 +58,9 @@ filled_more c h p i j k d m l e f g =
           let r = more came (j - i) in
           let o : more r (m - j) ≡ more came (m - i) = omega (arith, f.forward, g.forward) in
           f.goes came most
-          ∙ ap (λ (x : ℕ). scanFrom next (inside r x k) p j) (sym e)
+          ∙ ap (λ (x : ℕ). scan_from next (inside r x k) p j) (sym e)
           ∙ g.goes r (more_most came (j - i))
-          ∙ ap₂ (λ (y x : ℕ). scanFrom next (inside y x l) p m) o n;
+          ∙ ap₂ (λ (y x : ℕ). scan_from next (inside y x l) p m) o n;
     }
 
 -- ---- the bytes seen so far are all plain

@@ -11,7 +11,7 @@ use borrow.Author.Tests.{ne_eqb}
 use native.Mathlib.Nat.{add-zero}
 use native.Mathlib.Omega.{arith}
 use Rattle.stream.specs.Event.{Event}
-use Rattle.stream.specs.Rule.{Settled, and_on, firstReadings}
+use Rattle.stream.specs.Rule.{Settled, and_on, first_readings}
 use Rattle.stream.specs.Written.{Each}
 use Rattle.comlynx.specs.Wire.{Message, flag}
 use Rattle.comlynx.specs.Rules.{judge, within, before, rule}
@@ -43,18 +43,18 @@ module _ (rest : List ℕ) (quiet : Stretch rest) where
   abbrev Shown : List (List ℕ) → Type 0
   Shown ws =
       (n at k : ℕ) (whole : List ℕ) → drop k whole ≡ bytes ws → length whole ≤ suc n
-      → and_on at (within k [] (bytes ws)) (λ u. firstReadings rule true n true (at + u) (drop u whole)) ≡ each_judged (at + k) ws
+      → and_on at (within k [] (bytes ws)) (λ u. first_readings rule true n true (at + u) (drop u whole)) ≡ each_judged (at + k) ws
 
-  goes_on : (ws : List (List ℕ)) → Shown ws → (n at : ℕ) → length (bytes ws) ≤ n → firstReadings rule true n true at (bytes ws) ≡ each_judged at ws
+  goes_on : (ws : List (List ℕ)) → Shown ws → (n at : ℕ) → length (bytes ws) ≤ n → first_readings rule true n true at (bytes ws) ≡ each_judged at ws
   goes_on [] s zero at h = refl
   goes_on (w ∷ ws) s zero at h = absurd (omega (arith, length-append (w ++ (flag ∷ each_closed ws)) rest, length-append w (flag ∷ each_closed ws)))
   goes_on ws s (suc n) at h = s n at 0 (bytes ws) refl h ∙ ap (λ (m : ℕ). each_judged m ws) (add-zero at)
 
   each_shown : (ws : List (List ℕ)) → Each Stretch ws → Shown ws
-  each_shown [] g n at k whole e h = ap (λ (o : Option (Settled (Event Message))). and_on at o (λ u. firstReadings rule true n true (at + u) (drop u whole))) (within_quiet rest quiet k [])
+  each_shown [] g n at k whole e h = ap (λ (o : Option (Settled (Event Message))). and_on at o (λ u. first_readings rule true n true (at + u) (drop u whole))) (within_quiet rest quiet k [])
   each_shown ([] ∷ ws) g n at k whole e h =
       let count : at + (k + 1) ≡ at + k + 1 = omega arith in
-      ap (λ (o : Option (Settled (Event Message))). and_on at o (λ u. firstReadings rule true n true (at + u) (drop u whole))) (within_empty k (bytes ws))
+      ap (λ (o : Option (Settled (Event Message))). and_on at o (λ u. first_readings rule true n true (at + u) (drop u whole))) (within_empty k (bytes ws))
       ∙ each_shown ws g.1 n at (k + 1) whole (sym (drop-drop 1 k whole) ∙ ap (drop 1) e) h
       ∙ ap (λ (m : ℕ). each_judged m ws) count
   each_shown ((b ∷ w) ∷ ws) g n at k whole e h =
@@ -70,9 +70,9 @@ module _ (rest : List ℕ) (quiet : Stretch rest) where
       ∙ drop_at (v ++ (flag ∷ [])) (bytes ws) (length v + 1) long in
       let fits : length (bytes ws) ≤ n = omega (arith, sym (ap length dropped) ∙ length-drop u whole) in
       let count : at + u ≡ at + k + length v + 1 = omega arith in
-      ap (λ (o : Option (Settled (Event Message))). and_on at o (λ j. firstReadings rule true n true (at + j) (drop j whole))) first
+      ap (λ (o : Option (Settled (Event Message))). and_on at o (λ j. first_readings rule true n true (at + j) (drop j whole))) first
       ∙ ap {B = List (Settled (Event Message))} (λ ps. record { event = judge v; used = at + u } ∷ ps)
-      (ap (firstReadings rule true n true (at + u)) dropped ∙ goes_on ws (each_shown ws g.1) n (at + u) fits)
+      (ap (first_readings rule true n true (at + u)) dropped ∙ goes_on ws (each_shown ws g.1) n (at + u) fits)
       ∙ ap {B = List (Settled (Event Message))} (λ (m : ℕ). record { event = judge v; used = m } ∷ each_judged m ws) count
 
 pub shown_once : ShownOnce
@@ -85,7 +85,7 @@ shown_once noise rest ws k q g =
     let left : drop (0 + length noise + 1) all ≡ more =
     ap (drop (0 + length noise + 1)) (sym (append_assoc noise (flag ∷ []) more)) ∙ drop_at (noise ++ (flag ∷ [])) more (0 + length noise + 1) start in
     let count : 0 + (0 + length noise + 1) ≡ length noise + 1 = omega arith in
-    ap (λ (m : ℕ). firstReadings rule true m false 0 all) long
-    ∙ ap (λ (o : Option (Settled (Event Message))). and_on 0 o (λ u. firstReadings rule true n true (0 + u) (drop u all))) (before_noise noise k 0 more)
+    ap (λ (m : ℕ). first_readings rule true m false 0 all) long
+    ∙ ap (λ (o : Option (Settled (Event Message))). and_on 0 o (λ u. first_readings rule true n true (0 + u) (drop u all))) (before_noise noise k 0 more)
     ∙ each_shown rest q ws g n 0 (0 + length noise + 1) all left (omega arith)
     ∙ ap (λ (m : ℕ). each_judged m ws) count

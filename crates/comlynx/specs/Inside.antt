@@ -5,7 +5,7 @@ use Rattle.std.proofs.lemmas.List.Edits.{sets}
 use Rattle.stream.specs.Event.{Event, damage, gives}
 use Rattle.stream.specs.Event as Event
 use Rattle.stream.specs.Call.{retold, delivered}
-use Rattle.stream.specs.Pieces.{scan, scanFrom}
+use Rattle.stream.specs.Pieces.{scan, scan_from}
 use Rattle.stream.specs.Delivery as Delivery
 use Rattle.stream.specs.Slice.{answered}
 use Rattle.stream.specs.Slice as Slice
@@ -39,7 +39,7 @@ pub record Filled (count : ℕ) (held piece : List ℕ) (i j : ℕ) (later : Lis
   pub room : count + (j - i) ≤ body_max
   pub sized : length later ≡ length held
   pub goes :
-      (came : ℕ) → came ≤ lost_max → scanFrom next (inside came count held) piece i ≡ scanFrom next (inside (more came (j - i)) (count + (j - i)) later) piece j
+      (came : ℕ) → came ≤ lost_max → scan_from next (inside came count held) piece i ≡ scan_from next (inside (more came (j - i)) (count + (j - i)) later) piece j
 
 -- the event that the end of a run is
 abbrev pub event_of : End → List ℕ → Option (Event Message)

@@ -5,7 +5,7 @@ use mathlib.Core.Path.{◌≡◌, refl, sym, ap, ◌∙◌}
 use mathlib.Core.List.{List}
 use lib.ListN.{length, get_or, set, length-set}
 use native.Mathlib.Omega.{arith}
-use Rattle.stream.specs.Pieces.{scanFrom}
+use Rattle.stream.specs.Pieces.{scan_from}
 use Rattle.stream.proofs.LoopScans.{from_goes}
 use Rattle.drives.specs.Wire.{eot}
 use Rattle.drives.specs.Machine.{held_max, inside, next}
@@ -21,7 +21,7 @@ filled_none c h p i hi hc =
       within = hi;
       room = omega arith;
       sized = refl;
-      goes = λ o n. ap (λ (x : ℕ). scanFrom next (inside o x h) p i) e;
+      goes = λ o n. ap (λ (x : ℕ). scan_from next (inside o x h) p i) e;
     }
 
 -- and one more
@@ -36,7 +36,7 @@ filled_more c h p i at j k e f hj hc q =
       sized = length-set k at (get_or p j 0) ∙ f.sized;
       goes = λ o n.
           f.goes o n
-          ∙ ap (λ (x : ℕ). scanFrom next (inside o x k) p j) (sym e)
+          ∙ ap (λ (x : ℕ). scan_from next (inside o x k) p j) (sym e)
           ∙ from_goes next (inside o at k) (inside o (at + 1) (set k at (get_or p j 0))) p j hj (keeps o n at k (get_or p j 0) q hc)
-          ∙ ap (λ (x : ℕ). scanFrom next (inside o x (set k at (get_or p j 0))) p (j + 1)) d;
+          ∙ ap (λ (x : ℕ). scan_from next (inside o x (set k at (get_or p j 0))) p (j + 1)) d;
     }

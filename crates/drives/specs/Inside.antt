@@ -4,7 +4,7 @@ use Rattle.std.proofs.Math.Option.{Option, none, some}
 use Rattle.stream.specs.Event.{Event, gives}
 use Rattle.stream.specs.Event as Event
 use Rattle.stream.specs.Call.{retold, delivered}
-use Rattle.stream.specs.Pieces.{scan, scanFrom}
+use Rattle.stream.specs.Pieces.{scan, scan_from}
 use Rattle.stream.specs.Delivery as Delivery
 use Rattle.stream.specs.Slice as Slice
 use Rattle.drives.specs.Wire.{Message, eot, hex_digit}
@@ -27,7 +27,7 @@ pub record Filled (count : ℕ) (held piece : List ℕ) (i j : ℕ) (later : Lis
   pub sized : length later ≡ length held
   pub goes :
       (opening : ℕ) → (opening ≡ 0 → ⊥)
-      → scanFrom next (inside opening count held) piece i ≡ scanFrom next (inside opening (count + (j - i)) later) piece j
+      → scan_from next (inside opening count held) piece i ≡ scan_from next (inside opening (count + (j - i)) later) piece j
 
 -- the event that the end of a run is
 abbrev pub event_of : End → List ℕ → Option (Event Message)

@@ -3,7 +3,7 @@
 use Prim.Native.Nat.{ℕ}
 use mathlib.Core.Path.{◌≡◌, refl}
 use mathlib.Core.Logic.{inl, inr}
-use mathlib.Core.Bool.{Bool, true, false, ◌&&◌, and_false}
+use mathlib.Core.Bool.{Bool, true, false, ◌&&◌, and-false}
 use lib.Dec.{eqb, leb}
 use borrow.Author.Tests.{eqb-true, leb-true, le-leb, lt-leb}
 use native.Mathlib.Omega.{arith}
@@ -69,8 +69,8 @@ pub wrong_character_only : WrongCharacterOnly
 unfolding expected
 wrong_character_only = record {
   opening = λ o a b n. rw (opens_not o n);
-  first = λ o a b n. rw (hex_not a n, and_false (opens o));
-  second = λ o a b n. rw (hex_not b n, and_false (is_hex a), and_false (opens o));
+  first = λ o a b n. rw (hex_not a n, and-false (opens o));
+  second = λ o a b n. rw (hex_not b n, and-false (is_hex a), and-false (opens o));
   others = λ o a b r p q. rw (opens_is o r, hex_is a p, hex_is b q);
 }
 

@@ -4,7 +4,7 @@ use Rattle.std.proofs.Math.Option.{Option, none, some}
 use Rattle.stream.specs.Event.{Event}
 use Rattle.stream.specs.Event as Event
 use Rattle.stream.specs.Call.{retold, delivered}
-use Rattle.stream.specs.Pieces.{scan, scanFrom}
+use Rattle.stream.specs.Pieces.{scan, scan_from}
 use Rattle.stream.specs.Delivery as Delivery
 use Rattle.eversolar_words.specs.Words.{word}
 use Rattle.eversolar.specs.Wire.{Message, payload_max}
@@ -22,10 +22,10 @@ use Rattle.eversolar.specs.declared.reader.End.TheVariants.{UsedUp, Closed}
 -- `hunt`: the call goes on behind AA 55, in the lead; or there is none up to the end of the piece
 abbrev pub Hunted : ℕ → List ℕ → ℕ → HuntEnd → Type 0
 Hunted stage piece i (Found j) =
-    (i < j) × (j ≤ length piece) × ((count len : ℕ) (held : List ℕ) → scanFrom next (holding stage count len held) piece i ≡ scanFrom next (holding 2 count len held) piece j)
+    (i < j) × (j ≤ length piece) × ((count len : ℕ) (held : List ℕ) → scan_from next (holding stage count len held) piece i ≡ scan_from next (holding 2 count len held) piece j)
 Hunted stage piece i (AtEnd later) =
     (later < 2)
-    × ((count len : ℕ) (held : List ℕ) → scanFrom next (holding stage count len held) piece i ≡ scanFrom next (holding later count len held) piece (length piece))
+    × ((count len : ℕ) (held : List ℕ) → scan_from next (holding stage count len held) piece i ≡ scan_from next (holding later count len held) piece (length piece))
 
 -- `fill`: the bytes from i up to j are kept, and the call goes on from there
 pub record Filled (stage count len : ℕ) (held piece : List ℕ) (i j : ℕ) (later : List ℕ) : Type 0 where
@@ -33,7 +33,7 @@ pub record Filled (stage count len : ℕ) (held piece : List ℕ) (i j : ℕ) (l
   pub within : j ≤ length piece
   pub room : count + (j - i) ≤ most stage len
   pub sized : length later ≡ length held
-  pub goes : scanFrom next (holding stage count len held) piece i ≡ scanFrom next (holding stage (count + (j - i)) len later) piece j
+  pub goes : scan_from next (holding stage count len held) piece i ≡ scan_from next (holding stage (count + (j - i)) len later) piece j
 
 -- the event that a frame is, by its length, the last byte of its checksum and the held bytes
 abbrev pub judged_frame : ℕ → ℕ → List ℕ → Option (Event Message)

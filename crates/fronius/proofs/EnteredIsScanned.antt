@@ -7,7 +7,7 @@ use mathlib.Core.List.{List}
 use lib.ListN.{length, get_or, set, length-set}
 use native.Mathlib.Nat.{zero-add}
 use native.Mathlib.Omega.{arith}
-use Rattle.stream.specs.Pieces.{scan, scanFrom}
+use Rattle.stream.specs.Pieces.{scan, scan_from}
 use Rattle.stream.proofs.LoopScans.{from_start, from_goes}
 use Rattle.fronius.specs.Wire.{mark, payload_max}
 use Rattle.fronius.specs.Machine.{holding, counting, filling, in_range, next}
@@ -24,13 +24,13 @@ stays stage count len held piece r = record { within = omega arith; sized = refl
 -- ---- the start and the length, however many 80 came before
 
 module _ (h piece : List ℕ) where
-  marked : (c i : ℕ) → c < 3 → i < length piece → get_or piece i 0 ≡ mark → scanFrom next (counting c h) piece i ≡ scanFrom next (counting (c + 1) h) piece (i + 1)
+  marked : (c i : ℕ) → c < 3 → i < length piece → get_or piece i 0 ≡ mark → scan_from next (counting c h) piece i ≡ scan_from next (counting (c + 1) h) piece (i + 1)
   marked c i lt il e = from_goes next (counting c h) (counting (c + 1) h) piece i il (ap (next (counting c h)) e ∙ count_more c h lt)
 
-  further : (i : ℕ) → i < length piece → get_or piece i 0 ≡ mark → scanFrom next (counting 3 h) piece i ≡ scanFrom next (counting 3 h) piece (i + 1)
+  further : (i : ℕ) → i < length piece → get_or piece i 0 ≡ mark → scan_from next (counting 3 h) piece i ≡ scan_from next (counting 3 h) piece (i + 1)
   further i il e = from_goes next (counting 3 h) (counting 3 h) piece i il (ap (next (counting 3 h)) e ∙ size_mark h)
 
-  started : (stage c : ℕ) → c ≤ 3 → Opens stage piece → scanFrom next (counting c h) piece 0 ≡ scanFrom next (counting 3 h) piece 3
+  started : (stage c : ℕ) → c ≤ 3 → Opens stage piece → scan_from next (counting c h) piece 0 ≡ scan_from next (counting 3 h) piece 3
   started stage zero le o = marked 0 0 (omega arith) (omega (arith, o.1)) o.2 ∙ marked 1 1 (omega arith) (omega (arith, o.1)) o.3 ∙ marked 2 2 (omega arith) (omega (arith, o.1)) o.4
   started stage (suc zero) le o = marked 1 0 (omega arith) (omega (arith, o.1)) o.2 ∙ marked 2 1 (omega arith) (omega (arith, o.1)) o.3 ∙ further 2 (omega (arith, o.1)) o.4
   started stage (suc (suc zero)) le o = marked 2 0 (omega arith) (omega (arith, o.1)) o.2 ∙ further 1 (omega (arith, o.1)) o.3 ∙ further 2 (omega (arith, o.1)) o.4
@@ -38,11 +38,11 @@ module _ (h piece : List ℕ) where
   started stage (suc (suc (suc (suc c)))) le o = absurd (omega arith)
 
   opened : (stage count len : ℕ) → Range stage count len → Opens stage piece
-      → scan next (holding stage count len h) piece ≡ scanFrom next (filling 0 (get_or piece 3 0) h) piece 4
+      → scan next (holding stage count len h) piece ≡ scan_from next (filling 0 (get_or piece 3 0) h) piece 4
   opened stage count len (start s c l) o =
       sym (from_start next (holding stage count len h) piece)
-      ∙ ap (λ (n : ℕ). scanFrom next (holding n count len h) piece 0) s
-      ∙ ap (λ (n : ℕ). scanFrom next (holding 0 count n h) piece 0) l
+      ∙ ap (λ (n : ℕ). scan_from next (holding n count len h) piece 0) s
+      ∙ ap (λ (n : ℕ). scan_from next (holding 0 count n h) piece 0) l
       ∙ started stage count c o
       ∙ from_goes next (counting 3 h) (filling 0 (get_or piece 3 0) h) piece 3 (omega (arith, o.1)) (size_opens h (get_or piece 3 0) o.5)
   opened stage count len (body s n c) o = absurd (omega (arith, o.0, s))
@@ -55,7 +55,7 @@ enters stage count len held piece later at r o f = record {
   within = f.within;
   sized = f.sized;
   ranged = in_range_lem 1 (at - 4) (get_or piece 3 0) (body refl (omega (arith, o.5)) (omega (arith, f.room)));
-  goes = sym (opened held piece stage count len (range_of stage count len r) o ∙ f.goes ∙ ap (λ (n : ℕ). scanFrom next (filling n (get_or piece 3 0) later) piece at) (zero-add (at - 4)));
+  goes = sym (opened held piece stage count len (range_of stage count len r) o ∙ f.goes ∙ ap (λ (n : ℕ). scan_from next (filling n (get_or piece 3 0) later) piece at) (zero-add (at - 4)));
 }
 
 -- a body's first three bytes, the header

@@ -2,7 +2,7 @@
 -- Assumes nothing.
 use Prim.Native.Nat.{ℕ, ◌+◌, ◌-◌, ◌≤◌, ◌<◌}
 use mathlib.Core.Path.{◌≡◌, refl, sym, ap, ap₂, ◌∙◌}
-use mathlib.Core.Bool.{Bool, true, false, cond, ◌&&◌, and_assoc, and_false}
+use mathlib.Core.Bool.{Bool, true, false, cond, ◌&&◌, and_assoc, and-false}
 use mathlib.Core.Option.{none, some}
 use mathlib.Core.List.{List, [], ◌∷◌}
 use lib.ListN.{length, take, drop, get_or, length-drop, drop_of_length-le}
@@ -33,8 +33,8 @@ sized_by at (b ∷ bs) t u h e f = rw (e, f)
 few : (at : ℕ) (bs : List ℕ) → length bs < 3 → sought at bs ≡ none
 unfolding sought
 few at [] h = refl
-few at (a ∷ []) h = rw (and_false (eqb a mark))
-few at (a ∷ b ∷ []) h = rw (and_false (eqb b mark), and_false (eqb a mark))
+few at (a ∷ []) h = rw (and-false (eqb a mark))
+few at (a ∷ b ∷ []) h = rw (and-false (eqb b mark), and-false (eqb a mark))
 few at (a ∷ b ∷ c ∷ bs) h = absurd (omega arith)
 
 -- ---- in a slice

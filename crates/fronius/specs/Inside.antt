@@ -4,7 +4,7 @@ use Rattle.std.proofs.Math.Option.{Option, none, some}
 use Rattle.stream.specs.Event.{Event, damage}
 use Rattle.stream.specs.Event as Event
 use Rattle.stream.specs.Call.{retold, delivered}
-use Rattle.stream.specs.Pieces.{scan, scanFrom}
+use Rattle.stream.specs.Pieces.{scan, scan_from}
 use Rattle.stream.specs.Delivery as Delivery
 use Rattle.stream.specs.Rule.{Settled}
 use Rattle.stream.specs.Slice.{answered, retells}
@@ -28,7 +28,7 @@ pub record Filled (count len : ℕ) (held piece : List ℕ) (i j : ℕ) (later :
   pub within : j ≤ length piece
   pub room : count + (j - i) ≤ 3 + len
   pub sized : length later ≡ length held
-  pub goes : scanFrom next (filling count len held) piece i ≡ scanFrom next (filling (count + (j - i)) len later) piece j
+  pub goes : scan_from next (filling count len held) piece i ≡ scan_from next (filling (count + (j - i)) len later) piece j
 
 -- `opens`: a start is looked for, and three marks and a length stand at the front
 abbrev pub Opens : ℕ → List ℕ → Type 0
@@ -40,7 +40,7 @@ pub record Enters (stage count len : ℕ) (held piece : List ℕ) (r : Entered) 
   pub within : r.at ≤ length piece
   pub sized : length later ≡ length held
   pub ranged : in_range r.stage r.count r.len ≡ true
-  pub goes : scanFrom next (holding r.stage r.count r.len later) piece r.at ≡ scan next (holding stage count len held) piece
+  pub goes : scan_from next (holding r.stage r.count r.len later) piece r.at ≡ scan next (holding stage count len held) piece
 
 -- the event that a frame is, by its length, the checksum that came and the held bytes
 abbrev pub judged_frame : ℕ → ℕ → List ℕ → Option (Event Message)

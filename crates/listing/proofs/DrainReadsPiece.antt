@@ -55,60 +55,60 @@ into l m piece at h e =
 -- ---- one event more
 
 module _ {M : Type 0} (show : M → Shown) (port : ℕ) where
-  abbrev pub entriesIn : List (Event M) → List Entry
-  entriesIn es = entries_on port (map (show_event show) es)
+  abbrev pub entries_in : List (Event M) → List Entry
+  entries_in es = entries_on port (map (show_event show) es)
 
-  abbrev pub messageFor : Option (Event M) → ℕ
-  messageFor none = 0
-  messageFor (some e) = is_message (show_event show e)
+  abbrev pub message_for : Option (Event M) → ℕ
+  message_for none = 0
+  message_for (some e) = is_message (show_event show e)
 
-  abbrev pub damageFor : Option (Event M) → ℕ
-  damageFor none = 0
-  damageFor (some e) = is_damage (show_event show e)
+  abbrev pub damage_for : Option (Event M) → ℕ
+  damage_for none = 0
+  damage_for (some e) = is_damage (show_event show e)
 
-  pub message_most_one : (o : Option (Event M)) → messageFor o ≤ 1
+  pub message_most_one : (o : Option (Event M)) → message_for o ≤ 1
   message_most_one none = omega arith
   message_most_one (some (message m)) = omega arith
   message_most_one (some (damage n lost)) = omega arith
 
-  pub damage_most_one : (o : Option (Event M)) → damageFor o ≤ 1
+  pub damage_most_one : (o : Option (Event M)) → damage_for o ≤ 1
   damage_most_one none = omega arith
   damage_most_one (some (message m)) = omega arith
   damage_most_one (some (damage n lost)) = omega arith
 
-  entries_append : (a b : List (Event M)) → entriesIn (a ++ b) ≡ entriesIn a ++ entriesIn b
+  entries_append : (a b : List (Event M)) → entries_in (a ++ b) ≡ entries_in a ++ entries_in b
   entries_append [] b = refl
   entries_append (e ∷ a) b = ap (λ (l : List Entry). record { port = port; event = show_event show e } ∷ l) (entries_append a b)
 
-  own_lines : (o : Option (Event M)) → lines_of (entriesIn (before o [])) ≡ line_for show port o
+  own_lines : (o : Option (Event M)) → lines_of (entries_in (before o [])) ≡ line_for show port o
   own_lines none = refl
   own_lines (some e) = append-nil (line_for show port (some e))
 
-  own_messages : (o : Option (Event M)) → messages_in (entriesIn (before o [])) ≡ messageFor o
+  own_messages : (o : Option (Event M)) → messages_in (entries_in (before o [])) ≡ message_for o
   own_messages none = refl
   own_messages (some e) = omega arith
 
-  own_damages : (o : Option (Event M)) → damages_in (entriesIn (before o [])) ≡ damageFor o
+  own_damages : (o : Option (Event M)) → damages_in (entries_in (before o [])) ≡ damage_for o
   own_damages none = refl
   own_damages (some e) = omega arith
 
-  pub lines_more : (es : List (Event M)) (o : Option (Event M)) → lines_of (entriesIn (es ++ before o [])) ≡ lines_of (entriesIn es) ++ line_for show port o
+  pub lines_more : (es : List (Event M)) (o : Option (Event M)) → lines_of (entries_in (es ++ before o [])) ≡ lines_of (entries_in es) ++ line_for show port o
   lines_more es o =
       ap lines_of (entries_append es (before o []))
-      ∙ lines_append (entriesIn es) (entriesIn (before o []))
-      ∙ ap (λ (l : List ℕ). lines_of (entriesIn es) ++ l) (own_lines o)
+      ∙ lines_append (entries_in es) (entries_in (before o []))
+      ∙ ap (λ (l : List ℕ). lines_of (entries_in es) ++ l) (own_lines o)
 
-  pub messages_more : (es : List (Event M)) (o : Option (Event M)) → messages_in (entriesIn (es ++ before o [])) ≡ messages_in (entriesIn es) + messageFor o
+  pub messages_more : (es : List (Event M)) (o : Option (Event M)) → messages_in (entries_in (es ++ before o [])) ≡ messages_in (entries_in es) + message_for o
   messages_more es o =
       ap messages_in (entries_append es (before o []))
-      ∙ messages_append (entriesIn es) (entriesIn (before o []))
-      ∙ ap (λ (n : ℕ). messages_in (entriesIn es) + n) (own_messages o)
+      ∙ messages_append (entries_in es) (entries_in (before o []))
+      ∙ ap (λ (n : ℕ). messages_in (entries_in es) + n) (own_messages o)
 
-  pub damages_more : (es : List (Event M)) (o : Option (Event M)) → damages_in (entriesIn (es ++ before o [])) ≡ damages_in (entriesIn es) + damageFor o
+  pub damages_more : (es : List (Event M)) (o : Option (Event M)) → damages_in (entries_in (es ++ before o [])) ≡ damages_in (entries_in es) + damage_for o
   damages_more es o =
       ap damages_in (entries_append es (before o []))
-      ∙ damages_append (entriesIn es) (entriesIn (before o []))
-      ∙ ap (λ (n : ℕ). damages_in (entriesIn es) + n) (own_damages o)
+      ∙ damages_append (entries_in es) (entries_in (before o []))
+      ∙ ap (λ (n : ℕ). damages_in (entries_in es) + n) (own_damages o)
 
 before_split : {E : Type 0} (o : Option E) (es : List E) → before o es ≡ before o [] ++ es
 before_split none es = refl
@@ -121,21 +121,21 @@ module _ {S M : Type 0} (next : S → ℕ → Moved S (Event M)) (show : M → S
     pub told : List (Event M)
     pub goes : events next s₀ piece ≡ told ++ events next s (drop at piece)
     pub ends : after next s₀ piece ≡ after next s (drop at piece)
-    pub laid : out ≡ sets out₀ 0 (lines_of (entriesIn show port told))
-    pub count : wrote ≡ length (lines_of (entriesIn show port told))
-    pub messages_told : messages ≡ messages_in (entriesIn show port told)
-    pub damages_told : damages ≡ damages_in (entriesIn show port told)
+    pub laid : out ≡ sets out₀ 0 (lines_of (entries_in show port told))
+    pub count : wrote ≡ length (lines_of (entries_in show port told))
+    pub messages_told : messages ≡ messages_in (entries_in show port told)
+    pub damages_told : damages ≡ damages_in (entries_in show port told)
 
   pub mid_begins : (s : S) (piece out : List ℕ) → Mid s piece out s 0 0 0 0 out
   mid_begins s piece out = record { told = []; goes = refl; ends = refl; laid = refl; count = refl; messages_told = refl; damages_told = refl }
 
   module _ (s₀ : S) (piece out₀ : List ℕ) (s : S) (at wrote messages damages : ℕ) (out : List ℕ) (m : Mid s₀ piece out₀ s at wrote messages damages out) where
     pub mid_turns : (t : S) (o : Option (Event M)) (u : ℕ) → scan next s (drop at piece) ≡ record { state = t; event = o; used = u }
-        → (wrote' messages' damages' : ℕ) (out' : List ℕ) → wrote' ≡ wrote + length (line_for show port o) → messages' ≡ messages + messageFor show port o
-        → damages' ≡ damages + damageFor show port o → out' ≡ sets out wrote (line_for show port o)
+        → (wrote' messages' damages' : ℕ) (out' : List ℕ) → wrote' ≡ wrote + length (line_for show port o) → messages' ≡ messages + message_for show port o
+        → damages' ≡ damages + damage_for show port o → out' ≡ sets out wrote (line_for show port o)
         → Mid s₀ piece out₀ t (at + u) wrote' messages' damages' out'
     mid_turns t o u e wrote' messages' damages' out' ew em ed eo =
-        let all = lines_of (entriesIn show port m.told) in
+        let all = lines_of (entries_in show port m.told) in
         let left : events next s (drop at piece) ≡ before o (events next t (drop (at + u) piece)) =
         scan_events next s (drop at piece)
         ∙ ap (λ (c : Called S (Event M)). before c.event (events next c.state (drop c.used (drop at piece)))) e
@@ -152,8 +152,8 @@ module _ {S M : Type 0} (next : S → ℕ → Moved S (Event M)) (show : M → S
               ∙ sets_append out₀ 0 all (line_for show port o)
               ∙ ap (sets out₀ 0) (sym (lines_more show port m.told o));
           count = ew ∙ ap (λ (n : ℕ). n + length (line_for show port o)) m.count ∙ sym (ap length (lines_more show port m.told o) ∙ length-append all (line_for show port o));
-          messages_told = em ∙ ap (λ (n : ℕ). n + messageFor show port o) m.messages_told ∙ sym (messages_more show port m.told o);
-          damages_told = ed ∙ ap (λ (n : ℕ). n + damageFor show port o) m.damages_told ∙ sym (damages_more show port m.told o);
+          messages_told = em ∙ ap (λ (n : ℕ). n + message_for show port o) m.messages_told ∙ sym (messages_more show port m.told o);
+          damages_told = ed ∙ ap (λ (n : ℕ). n + damage_for show port o) m.damages_told ∙ sym (damages_more show port m.told o);
         }
 
     -- where nothing is left, all calls came to this
@@ -256,7 +256,7 @@ module _ {S M H R : Type 0} (next : S → ℕ → Moved S (Event M)) (in_range :
     module _ (weighs : Weighs next show port weight) {s₀ : S} {piece out₀ : List ℕ} {s : S} {at wrote messages damages : ℕ} {out : List ℕ}
         (k : Kept s₀ piece out₀ s at wrote messages damages out) where
       pub kept_length : length out ≡ length out₀
-      kept_length = ap length k.mid.laid ∙ length-sets out₀ 0 (lines_of (entriesIn show port k.mid.told))
+      kept_length = ap length k.mid.laid ∙ length-sets out₀ 0 (lines_of (entries_in show port k.mid.told))
 
       module _ {r : R} {o : Option (Event M)} (w : Went s (drop at piece) r o) where
         pub line_used : at + (shown r).used ≤ length piece
@@ -278,7 +278,7 @@ module _ {S M H R : Type 0} (next : S → ℕ → Moved S (Event M)) (in_range :
             omega (arith, k.room w.ranged)
 
         pub turns : (in_range s ≡ true → in_range (shown r).state ≡ true) → at < length piece → (wrote' messages' damages' : ℕ) (out' : List ℕ) → wrote' ≡ wrote + length (line_for show port o)
-            → messages' ≡ messages + messageFor show port o → damages' ≡ damages + damageFor show port o → out' ≡ sets out wrote (line_for show port o)
+            → messages' ≡ messages + message_for show port o → damages' ≡ damages + damage_for show port o → out' ≡ sets out wrote (line_for show port o)
             → Kept s₀ piece out₀ (shown r).state (at + (shown r).used) wrote' messages' damages' out'
         turns stays h wrote' messages' damages' out' ew em ed eo =
             let ranged : in_range s ≡ true = w.ranged in
@@ -302,10 +302,10 @@ module _ {S M H R : Type 0} (next : S → ℕ → Moved S (Event M)) (in_range :
         refuses = λ i. absurd (omega (arith, (k.still i).0));
         reads = λ i.
             subst (λ (ran : Ran S (Event M)).
-            (t ≡ ran.state) × Put (lines_of (entriesIn show port ran.events)) out₀ wrote out
-            × (messages ≡ messages_in (entriesIn show port ran.events)) × (damages ≡ damages_in (entriesIn show port ran.events)) × (in_range t ≡ true))
+            (t ≡ ran.state) × Put (lines_of (entries_in show port ran.events)) out₀ wrote out
+            × (messages ≡ messages_in (entries_in show port ran.events)) × (damages ≡ damages_in (entries_in show port ran.events)) × (in_range t ≡ true))
             (sym (mid_ends next show port s₀ piece out₀ s at wrote messages damages out k.mid h))
-            (et, (k.mid.count, k.mid.laid ∙ put_front out₀ (lines_of (entriesIn show port k.mid.told)) (omega (arith, k.mid.count, k.within, k.room (k.same ∙ i)))), k.mid.messages_told, k.mid.damages_told, ap in_range et ∙ k.same ∙ i);
+            (et, (k.mid.count, k.mid.laid ∙ put_front out₀ (lines_of (entries_in show port k.mid.told)) (omega (arith, k.mid.count, k.within, k.room (k.same ∙ i)))), k.mid.messages_told, k.mid.damages_told, ap in_range et ∙ k.same ∙ i);
         few = (omega (arith, k.within, k.few_messages), omega (arith, k.within, k.few_damages));
       }
         where

@@ -121,9 +121,9 @@ module _ (n : Event Shown → ℕ) where
   among [] = 0
   among (e ∷ es) = n e + among es
 
-  abbrev pub inAll : List Entry → ℕ
-  inAll [] = 0
-  inAll (e ∷ es) = n e.event + inAll es
+  abbrev pub in_all : List Entry → ℕ
+  in_all [] = 0
+  in_all (e ∷ es) = n e.event + in_all es
 
   one_entry : (ls : List Seat) (e : Event Shown) (chosen : Seat → Bool) (a : Seat → List (Event Shown))
       → sum_over ls (λ l. among (cond (chosen l) (e ∷ a l) (a l))) ≡ sum_over ls (λ l. cond (chosen l) (n e) 0) + sum_over ls (λ l. among (a l))
@@ -136,7 +136,7 @@ module _ (n : Event Shown → ℕ) where
       go true h = omega arith
       go false h = omega arith
 
-  pub by_ports : (es : List Entry) → OnSeats es → inAll es ≡ sum_over seats (λ l. among (on_port (row_of l).port es))
+  pub by_ports : (es : List Entry) → OnSeats es → in_all es ≡ sum_over seats (λ l. among (on_port (row_of l).port es))
   by_ports [] h = sym (sums_to_none seats (λ l. 0) (λ l. refl))
   by_ports (e ∷ es) h =
       let chosen = one_chosen seats (λ l. eqb e.port (row_of l).port) (n e.event)
@@ -144,11 +144,11 @@ module _ (n : Event Shown → ℕ) where
       ap₂ ◌+◌ (sym chosen) (by_ports es h.1)
       ∙ sym (one_entry seats e.event (λ l. eqb e.port (row_of l).port) (λ l. on_port (row_of l).port es))
 
-pub messages_are : (es : List Entry) → messages_in es ≡ inAll is_message es
+pub messages_are : (es : List Entry) → messages_in es ≡ in_all is_message es
 messages_are [] = refl
 messages_are (e ∷ es) = ap (λ (k : ℕ). is_message e.event + k) (messages_are es)
 
-pub damages_are : (es : List Entry) → damages_in es ≡ inAll is_damage es
+pub damages_are : (es : List Entry) → damages_in es ≡ in_all is_damage es
 damages_are [] = refl
 damages_are (e ∷ es) = ap (λ (k : ℕ). is_damage e.event + k) (damages_are es)
 

@@ -44,8 +44,8 @@ module _ (seat : Seat) where
   abbrev show : F.Message → Shown
   show = (row_of seat).show
 
-  abbrev pub foundIn : List ℕ → List (Event Shown)
-  foundIn bs = found_on (some seat) bs
+  abbrev pub found_in : List ℕ → List (Event Shown)
+  found_in bs = found_on (some seat) bs
 
   abbrev pub given : F.State → List ℕ → List (Event Shown)
   given s bs = map (show_event show) (events next s bs)
@@ -54,12 +54,12 @@ module _ (seat : Seat) where
   events_same : (bs : List ℕ) → events (facts_of seat).facts.next F.fresh bs ≡ events next F.fresh bs
   events_same bs = ap (λ (n : F.State → ℕ → Moved F.State (Event F.Message)). events n F.fresh bs) (facts_of seat).machine
 
-  pub found_is : (bs : List ℕ) → T (are_bytes bs) → foundIn bs ≡ given F.fresh bs
+  pub found_is : (bs : List ℕ) → T (are_bytes bs) → found_in bs ≡ given F.fresh bs
   found_is bs g =
       sym (map_map (λ (p : Settled (Event F.Message)). p.event) (show_event show) (readings F.rule F.after_event F.at_start bs))
       ∙ ap (map (show_event show)) (sym (events_found F (facts_of seat).facts bs g) ∙ events_same bs)
 
-  pub found_more : (a b : List ℕ) → T (are_bytes (a ++ b)) → foundIn (a ++ b) ≡ foundIn a ++ given (after next F.fresh a) b
+  pub found_more : (a b : List ℕ) → T (are_bytes (a ++ b)) → found_in (a ++ b) ≡ found_in a ++ given (after next F.fresh a) b
   found_more a b g =
       found_is (a ++ b) g
       ∙ ap (map (show_event show)) (events_append next F.fresh a b)
@@ -67,13 +67,13 @@ module _ (seat : Seat) where
       ∙ ap (λ (l : List (Event Shown)). l ++ given (after next F.fresh a) b) (sym (found_is a (bytes_left a b g)))
 
   -- what the bytes b bring after the bytes a
-  pub brought : (a b : List ℕ) → T (are_bytes (a ++ b)) → drop (length (foundIn a)) (foundIn (a ++ b)) ≡ given (after next F.fresh a) b
-  brought a b g = ap (drop (length (foundIn a))) (found_more a b g) ∙ drop-append_seam (foundIn a) (given (after next F.fresh a) b)
+  pub brought : (a b : List ℕ) → T (are_bytes (a ++ b)) → drop (length (found_in a)) (found_in (a ++ b)) ≡ given (after next F.fresh a) b
+  brought a b g = ap (drop (length (found_in a))) (found_more a b g) ∙ drop-append_seam (found_in a) (given (after next F.fresh a) b)
 
   shown_messages : (ms : List F.Message) → map (show_event show) (map message ms) ≡ map (λ m. message (show m)) ms
   shown_messages ms = map_map message (show_event show) ms
 
-  pub found_written : (ms : List F.Message) → Each F.Takes ms → foundIn (written F.wire ms) ≡ map (λ m. message (show m)) ms
+  pub found_written : (ms : List F.Message) → Each F.Takes ms → found_in (written F.wire ms) ≡ map (λ m. message (show m)) ms
   found_written ms t =
       found_is (written F.wire ms) (written_bytes F (facts_of seat).facts ms t)
       ∙ ap (map (show_event show)) (sym (events_same (written F.wire ms)) ∙ events_written F (facts_of seat).facts ms t)

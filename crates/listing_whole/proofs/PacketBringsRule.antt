@@ -20,7 +20,7 @@ use Rattle.listing.specs.Entries.{show_event}
 use Rattle.listing.specs.Steps.{Packet}
 use Rattle.listing_whole.specs.Listing.{joined, brings}
 use Rattle.listing.specs.Steps.{Fed, fed}
-use Rattle.listing_whole.proofs.MachineFindsRule.{foundIn, brought}
+use Rattle.listing_whole.proofs.MachineFindsRule.{found_in, brought}
 use Rattle.listing_whole.proofs.EntriesByPacket.{joined_same, joined_other}
 
 -- where the packets ps lead the reader of a seat
@@ -58,12 +58,12 @@ module _ (seat : Seat) (ps : List Packet) (bs : List ℕ) (l : Ports) (st : Stan
   ran_is = calls_is (row_of seat).next (length bs) ((row_of seat).get l) bs (omega arith)
 
   brings_events : T (are_bytes (joined port (ps ++ (p ∷ []))))
-      → map (show_event (row_of seat).show) ran.events ≡ drop (length (foundIn seat (joined port ps))) (foundIn seat (joined port (ps ++ (p ∷ []))))
+      → map (show_event (row_of seat).show) ran.events ≡ drop (length (found_in seat (joined port ps))) (found_in seat (joined port (ps ++ (p ∷ []))))
   brings_events g =
       ap (λ (r : Ran (row_of seat).family.State (Event (row_of seat).family.Message)). map (show_event (row_of seat).show) r.events) ran_is
       ∙ ap (λ (t : (row_of seat).family.State). map (show_event (row_of seat).show) (events (row_of seat).next t bs)) (st seat)
       ∙ sym (brought seat (joined port ps) bs (subst (λ (k : List ℕ). T (are_bytes k)) own g))
-      ∙ ap (λ (k : List ℕ). drop (length (foundIn seat (joined port ps))) (foundIn seat k)) (sym own)
+      ∙ ap (λ (k : List ℕ). drop (length (found_in seat (joined port ps))) (found_in seat k)) (sym own)
 
   leads : ran.state ≡ led seat (ps ++ (p ∷ []))
   leads =

@@ -31,7 +31,7 @@ use Rattle.listing_whole.specs.Demands.{Packed, no_more, and_one, on_port, Messa
 use Rattle.listing_whole.proofs.FirstPacket.{carried_seat}
 use Rattle.listing_whole.proofs.MachineFindsRule.{found_written}
 use Rattle.listing_whole.proofs.CallsMakeListing.{cut_nil}
-use Rattle.listing_whole.proofs.EntriesByPort.{by_port, OnSeats, among, inAll, by_ports, messages_are, damages_are, all_messages}
+use Rattle.listing_whole.proofs.EntriesByPort.{by_port, OnSeats, among, in_all, by_ports, messages_are, damages_are, all_messages}
 
 -- ---- packets as they were written are cut again
 

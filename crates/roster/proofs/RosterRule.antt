@@ -2,7 +2,7 @@
 -- Assumes nothing.
 use Prim.Native.Nat.{ℕ, zero, suc, ◌+◌, ◌<◌}
 use mathlib.Core.Path.{◌≡◌, refl, sym, ap, ◌∙◌}
-use mathlib.Core.Bool.{Bool, true, false, cond, not, ◌&&◌, and_false}
+use mathlib.Core.Bool.{Bool, true, false, cond, not, ◌&&◌, and-false}
 use mathlib.Core.List.{List, [], ◌∷◌}
 use native.Mathlib.Numerals.{add-one}
 use native.Mathlib.Omega.{arith}
@@ -97,7 +97,7 @@ pub some_pass : (test : Place → Bool) (ps : List Place) (k : ℕ) (other : Pla
 some_pass test [] k other l e = absurd (let z : ⊥ = omega (arith, l) in z)
 some_pass test (p ∷ ps) zero other l e = none_more test p ps ∙ simp e
 some_pass test (p ∷ ps) (suc k) other l e =
-    none_more test p ps ∙ ap (λ (t : Bool). not (test p) && t) (some_pass test ps k other (omega (arith, l)) e) ∙ and_false (not (test p))
+    none_more test p ps ∙ ap (λ (t : Bool). not (test p) && t) (some_pass test ps k other (omega (arith, l)) e) ∙ and-false (not (test p))
 
 -- ---- one place is set
 

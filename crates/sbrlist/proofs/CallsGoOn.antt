@@ -98,13 +98,13 @@ module _ (l₀ : Listing) (input : List ℕ) (ended : Bool) (lent : List ℕ) (l
   abbrev text : List ℕ
   text = text_of l front room later ended r st
 
-  abbrev pub out-then : List ℕ
-  out-then = put_mid at (length out - at) out later
+  abbrev pub out_then : List ℕ
+  out_then = put_mid at (length out - at) out later
 
   all_left : front ≡ drop used input
   all_left = take_all (length input - used) (drop used input) (simp length-drop (le_refl _))
 
-  put_then : Put (g.text ++ text) lent (at + r.wrote) out-then
+  put_then : Put (g.text ++ text) lent (at + r.wrote) out_then
   put_then = put_after g.text text lent out later at r.wrote g.put (put_of l front room later ended r st)
 
   left_then : drop r.used front ≡ drop (used + r.used) input
@@ -118,7 +118,7 @@ module _ (l₀ : Listing) (input : List ℕ) (ended : Bool) (lent : List ℕ) (l
       subst (λ (t : List ℕ). Prints l₀ (input ++ rest) t) (sym (append_assoc g.text text more))
       (g.goes_on rest (text ++ more) f (subst (λ (s : List ℕ). Prints l (s ++ rest) (text ++ more)) all_left c))
 
-  pub going_then : (r.heard ≡ End → ⊥) → Going l₀ input ended lent r.listing (used + r.used) (at + r.wrote) out-then
+  pub going_then : (r.heard ≡ End → ⊥) → Going l₀ input ended lent r.listing (used + r.used) (at + r.wrote) out_then
   going_then on = record { text = g.text ++ text; put = put_then; goes_on = goes_then on }
 
   abbrev pub filled : Listed
@@ -152,7 +152,7 @@ module _ (l₀ : Listing) (input : List ℕ) (ended : Bool) (lent : List ℕ) (l
           let same : r.listing.packets ≡ l.packets = ap (λ (x : Listing). x.packets) t.0 in
           (omega (arith, t.1), (omega (arith, k.0), (λ s. omega (arith, k.1 (sym same ∙ s), t.1)), λ s. omega (arith, k.2 (omega arith))), (λ s. zero_is_one cc), λ s. zero_is_one cc)
 
-  pub filled_then : used ≤ length input → Counts l₀.packets l.packets used → IsFilled l₀ input ended lent filled out-then
+  pub filled_then : used ≤ length input → Counts l₀.packets l.packets used → IsFilled l₀ input ended lent filled out_then
   filled_then u k =
       let w = known_then u k in
       record {

@@ -5,7 +5,7 @@ use Prim.Native.Nat.{ℕ, zero, suc, ◌+◌, ◌-◌, ◌≤◌, ◌<◌}
 use mathlib.Core.Path.{◌≡◌, refl, sym, ap, ◌∙◌, subst}
 use mathlib.Core.Bool.{Bool, true, false, cond}
 use mathlib.Core.Option.{Option, none, some}
-use mathlib.Core.List.{List, [], ◌∷◌, ◌++◌, map, flatten, append-nil, map_append}
+use mathlib.Core.List.{List, [], ◌∷◌, ◌++◌, map, flatten, append-nil, map-append}
 use lib.ListN.{length, take, drop, replicate, length-append, length-replicate}
 use lib.Seq.{take-length}
 use lib.Dec.{T, leb}
@@ -16,14 +16,14 @@ use native.Mathlib.Omega.{arith}
 use Rattle.numbers.proofs.Alike.{zero_is_one}
 use Rattle.stream.specs.Event.{Event, message, damage, Told, gives}
 use Rattle.stream.specs.Call.{lent_least}
-use Rattle.stream.specs.Rule.{Settled, firstReadings, readings}
+use Rattle.stream.specs.Rule.{Settled, first_readings, readings}
 use Rattle.stream.specs.Written.{written, ended, Each}
-use Rattle.stream.specs.Family.{Family, Call, Allowed, used, toldFrom}
+use Rattle.stream.specs.Family.{Family, Call, Allowed, used, told_from}
 use Rattle.stream.specs.Demands.{as_told}
-use Rattle.stream.specs.Storm.{AtMostOne, no_more, one_more, ItselfOrDamage, not_yet, Heard, toldAt, ToldAfter, handedOver, ToldAll, AfterStorm, HandedAfterStorm, AllButFirst, Damages, Swallowed, NeverRead}
+use Rattle.stream.specs.Storm.{AtMostOne, no_more, one_more, ItselfOrDamage, not_yet, Heard, told_at, ToldAfter, handed_over, ToldAll, AfterStorm, HandedAfterStorm, AllButFirst, Damages, Swallowed, NeverRead}
 use Rattle.stream.proofs.BytesOfParts.{bytes_append}
-use Rattle.stream.proofs.CallsComeTo.{settled_before, after, settledIn, settled_in_append}
-use Rattle.stream.proofs.WrittenIsGiven.{Reads, gotAt, read_whole, read_cut}
+use Rattle.stream.proofs.CallsComeTo.{settled_before, after, settled_in, settled_in_append}
+use Rattle.stream.proofs.WrittenIsGiven.{Reads, got_at, read_whole, read_cut}
 use Rattle.stream.proofs.FamilyFacts.{Facts}
 use Rattle.stream.proofs.Demands.{in_pieces, told_is, accepts, Rest, settled_written, written_bytes, calls_exist}
 
@@ -38,11 +38,11 @@ module _ (F : Family) (facts : Facts F) where
   within_before none at n ps h w = w
   within_before (some e) at n ps h w = (h, w)
 
-  within_bytes : (bs : List ℕ) (s : F.State) (at n : ℕ) → at + length bs ≤ n → Within n (map as_told (settledIn facts.next at s bs))
+  within_bytes : (bs : List ℕ) (s : F.State) (at n : ℕ) → at + length bs ≤ n → Within n (map as_told (settled_in facts.next at s bs))
   within_bytes [] s at n h = tt
   within_bytes (b ∷ bs) s at n h =
       let m = facts.next s b in
-      within_before m.event (suc at) n (settledIn facts.next (suc at) m.state bs) (omega arith) (within_bytes bs m.state (suc at) n (omega arith))
+      within_before m.event (suc at) n (settled_in facts.next (suc at) m.state bs) (omega arith) (within_bytes bs m.state (suc at) n (omega arith))
 
   -- ---- a family that opens at the first byte behind a storm
 
@@ -52,7 +52,7 @@ module _ (F : Family) (facts : Facts F) where
     pub state : F.State
     pub rests : facts.At known state
     pub first : Option (Event F.Message)
-    pub comes : (at : ℕ) → settledIn facts.next at t bs ≡ settled_before first (suc at) (settledIn facts.next at state bs)
+    pub comes : (at : ℕ) → settled_in facts.next at t bs ≡ settled_before first (suc at) (settled_in facts.next at state bs)
 
   record Split (at : ℕ) (ps qs : Heard F) : Type 0 where
     between : Heard F
@@ -63,21 +63,21 @@ module _ (F : Family) (facts : Facts F) where
   split none at ps = record { between = []; all = refl; meets = no_more }
   split (some e) at ps = record { between = record { event = gives e; used = at } ∷ []; all = refl; meets = one_more e }
 
-  told_got : (at : ℕ) (ms : List F.Message) → map as_told (gotAt F.wire message at ms) ≡ toldAt F at ms
+  told_got : (at : ℕ) (ms : List F.Message) → map as_told (got_at F.wire message at ms) ≡ told_at F at ms
   told_got at [] = refl
   told_got at (m ∷ ms) = let last = at + length (F.wire m) in ap {B = Heard F} (λ ps. record { event = gives (message m); used = last } ∷ ps) (told_got last ms)
 
   -- what is told of a storm and of bytes behind it: of the storm within its bytes, then what the bytes come to from the state that it left
   told_parts : (s : F.State) → facts.in_range s ≡ true → (storm bs : List ℕ) (cs : List (Call F.Result)) → Allowed F s cs → used F cs ≡ storm ++ bs
-      → toldFrom F 0 cs ≡ map as_told (settledIn facts.next 0 s storm) ++ map as_told (settledIn facts.next (length storm) (after facts.next s storm) bs)
+      → told_from F 0 cs ≡ map as_told (settled_in facts.next 0 s storm) ++ map as_told (settled_in facts.next (length storm) (after facts.next s storm) bs)
   told_parts s r storm bs cs al u =
       let next = facts.next in
-      let earlier = settledIn next 0 s storm in
+      let earlier = settled_in next 0 s storm in
       told_is F facts cs s r al 0
-      ∙ ap (λ (l : List ℕ). map as_told (settledIn next 0 s l)) u
+      ∙ ap (λ (l : List ℕ). map as_told (settled_in next 0 s l)) u
       ∙ ap (map as_told) (settled_in_append next 0 s storm bs)
-      ∙ map_append as_told earlier _
-      ∙ ap (λ (k : ℕ). map as_told earlier ++ map as_told (settledIn next k (after next s storm) bs)) (zero-add (length storm))
+      ∙ map-append as_told earlier _
+      ∙ ap (λ (k : ℕ). map as_told earlier ++ map as_told (settled_in next k (after next s storm) bs)) (zero-add (length storm))
 
   pub handed_after_storm : (s : F.State) → facts.in_range s ≡ true
       → ((storm : List ℕ) (ms : List F.Message) (n : ℕ) → Opens (after facts.next s storm) (take n (written F.wire ms)))
@@ -87,16 +87,16 @@ module _ (F : Family) (facts : Facts F) where
       let at = length storm in
       let bs = take n (written F.wire ms) in
       let o = opens storm ms n in
-      let x = split o.first (suc at) (gotAt F.wire message at (handedOver F n ms)) in
+      let x = split o.first (suc at) (got_at F.wire message at (handed_over F n ms)) in
       let place : suc at ≡ at + 1 = omega arith in
       record {
-        earlier = map as_told (settledIn next 0 s storm);
+        earlier = map as_told (settled_in next 0 s storm);
         between = x.between;
         all =
             told_parts s r storm bs cs al u
-            ∙ ap (λ (l : Heard F). map as_told (settledIn next 0 s storm) ++ l)
+            ∙ ap (λ (l : Heard F). map as_told (settled_in next 0 s storm) ++ l)
             (ap (map as_told) (o.comes at ∙ ap (settled_before o.first (suc at)) (settled_written F facts o.known o.state o.rests ms g n at))
-            ∙ x.all ∙ ap (λ (l : Heard F). x.between ++ l) (told_got at (handedOver F n ms)));
+            ∙ x.all ∙ ap (λ (l : Heard F). x.between ++ l) (told_got at (handed_over F n ms)));
         within = within_bytes storm s 0 at (omega arith);
         meets = subst (λ (k : ℕ). AtMostOne k x.between) place x.meets;
       }
@@ -116,12 +116,12 @@ module _ (F : Family) (facts : Facts F) where
 
   record SplitFirst (m : F.Message) (at : ℕ) (ms : List F.Message) (told : Heard F) : Type 0 where
     between : Heard F
-    all : told ≡ between ++ toldAt F at ms
+    all : told ≡ between ++ told_at F at ms
     meets : ItselfOrDamage m at between
 
   split_first : (t : F.State) (m : F.Message) → Closes t m → (ms : List F.Message) → Each F.Takes ms → (n at : ℕ) (test : Bool) → leb (length (F.wire m)) n ≡ test
       → SplitFirst m (at + length (F.wire m)) (drop 1 (take (cond test (suc (ended F.wire (n - length (F.wire m)) ms)) 0) (m ∷ ms)))
-      (map as_told (settledIn facts.next at t (take n (F.wire m ++ written F.wire ms))))
+      (map as_told (settled_in facts.next at t (take n (F.wire m ++ written F.wire ms))))
   split_first t m c ms g n at true h =
       let last = at + length (F.wire m) in
       let k = c.reads in
@@ -131,7 +131,7 @@ module _ (F : Family) (facts : Facts F) where
         all =
             ap (map as_told) (read_whole k at (written F.wire ms) n (leb-true (length (F.wire m)) n h))
             ∙ ap {B = Heard F} (λ ps. record { event = gives c.event; used = last } ∷ ps)
-            (ap (map as_told) (settled_written F facts k.rests.0 k.state k.rests.1 ms g j last) ∙ told_got last (handedOver F j ms));
+            (ap (map as_told) (settled_written F facts k.rests.0 k.state k.rests.1 ms g j last) ∙ told_got last (handed_over F j ms));
         meets = c.is last;
       }
   split_first t m c ms g n at false h = record {
@@ -148,11 +148,11 @@ module _ (F : Family) (facts : Facts F) where
       let at = length storm in
       let x = split_first (after next s storm) m (closes storm m g.0) ms g.1 n at (leb (length (F.wire m)) n) refl in
       record {
-        earlier = map as_told (settledIn next 0 s storm);
+        earlier = map as_told (settled_in next 0 s storm);
         between = x.between;
         all =
             told_parts s r storm (take n (written F.wire (m ∷ ms))) cs al u
-            ∙ ap (λ (l : Heard F). map as_told (settledIn next 0 s storm) ++ l) x.all;
+            ∙ ap (λ (l : Heard F). map as_told (settled_in next 0 s storm) ++ l) x.all;
         within = within_bytes storm s 0 at (omega arith);
         meets = x.meets;
       }
@@ -183,7 +183,7 @@ module _ (F : Family) (facts : Facts F) where
 
   module _ (m : F.Message) (some_bytes : 0 < length (F.wire m)) (left : List ℕ) (again : Swallows F.after_event left m left) where
     found_damages : (fuel n at : ℕ) → n ≤ fuel → (known : F.Known) (front : List ℕ) → Swallows known front m left
-        → Damages F n (map as_told (firstReadings F.rule F.after_event fuel known at (front ++ written F.wire (replicate n m))))
+        → Damages F n (map as_told (first_readings F.rule F.after_event fuel known at (front ++ written F.wire (replicate n m))))
     found_damages zero zero at h known front w = (refl, tt)
     found_damages zero (suc n) at h known front w = absurd (omega arith)
     found_damages (suc fuel) zero at h known front w = rw (append-nil, w.ends) (refl, tt)
@@ -236,4 +236,4 @@ module _ (F : Family) (facts : Facts F) where
       let handed = in_pieces F F.fresh ps made.made made.serves in
       let told = claim storm (m ∷ []) takes (length w) ps (whole ∙ ap (λ (l : List ℕ). storm ++ l) (sym (take-length w))) made.made made.serves in
       let damages = swallowed made.made handed.0 (handed.1 ∙ whole) in
-      one_told m (length storm) (length w) (omega (arith, length-append (F.wire m) [])) (toldFrom F 0 made.made) told damages.1
+      one_told m (length storm) (length w) (omega (arith, length-append (F.wire m) [])) (told_from F 0 made.made) told damages.1

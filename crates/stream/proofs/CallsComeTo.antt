@@ -27,9 +27,9 @@ module _ {S E : Type 0} (next : S → ℕ → Moved S E) where
   events s [] = []
   events s (b ∷ bs) = before (next s b).event (events (next s b).state bs)
 
-  abbrev pub settledIn : ℕ → S → List ℕ → List (Settled E)
-  settledIn at s [] = []
-  settledIn at s (b ∷ bs) = settled_before (next s b).event (suc at) (settledIn (suc at) (next s b).state bs)
+  abbrev pub settled_in : ℕ → S → List ℕ → List (Settled E)
+  settled_in at s [] = []
+  settled_in at s (b ∷ bs) = settled_before (next s b).event (suc at) (settled_in (suc at) (next s b).state bs)
 
   -- ---- bytes after bytes
 
@@ -51,20 +51,20 @@ module _ {S E : Type 0} (next : S → ℕ → Moved S E) where
   settled_before_append none at ps qs = refl
   settled_before_append (some e) at ps qs = refl
 
-  pub settled_in_append : (at : ℕ) (s : S) (a b : List ℕ) → settledIn at s (a ++ b) ≡ settledIn at s a ++ settledIn (at + length a) (after s a) b
+  pub settled_in_append : (at : ℕ) (s : S) (a b : List ℕ) → settled_in at s (a ++ b) ≡ settled_in at s a ++ settled_in (at + length a) (after s a) b
   settled_in_append at s [] b = rw add-zero
   settled_in_append at s (x ∷ a) b =
       let e : suc at + length a ≡ at + suc (length a) = omega arith in
       ap (settled_before (next s x).event (suc at))
-      (settled_in_append (suc at) (next s x).state a b ∙ ap (λ (n : ℕ). settledIn (suc at) (next s x).state a ++ settledIn n (after (next s x).state a) b) e)
-      ∙ settled_before_append (next s x).event (suc at) (settledIn (suc at) (next s x).state a) (settledIn (at + suc (length a)) (after (next s x).state a) b)
+      (settled_in_append (suc at) (next s x).state a b ∙ ap (λ (n : ℕ). settled_in (suc at) (next s x).state a ++ settled_in n (after (next s x).state a) b) e)
+      ∙ settled_before_append (next s x).event (suc at) (settled_in (suc at) (next s x).state a) (settled_in (at + suc (length a)) (after (next s x).state a) b)
 
   -- without the places
   unplaced : (o : Option E) (at : ℕ) (ps : List (Settled E)) (es : List E) → map (λ p. p.event) ps ≡ es → map (λ p. p.event) (settled_before o at ps) ≡ before o es
   unplaced none at ps es h = h
   unplaced (some e) at ps es h = ap (λ (r : List E). e ∷ r) h
 
-  pub settled_in_events : (at : ℕ) (s : S) (bs : List ℕ) → map (λ p. p.event) (settledIn at s bs) ≡ events s bs
+  pub settled_in_events : (at : ℕ) (s : S) (bs : List ℕ) → map (λ p. p.event) (settled_in at s bs) ≡ events s bs
   settled_in_events at s [] = refl
   settled_in_events at s (b ∷ bs) = unplaced (next s b).event (suc at) _ _ (settled_in_events (suc at) (next s b).state bs)
 
@@ -73,8 +73,8 @@ module _ {S E : Type 0} (next : S → ℕ → Moved S E) where
   no_places [] e = refl
   no_places (p ∷ ps) e = absurd (cons≢nil e)
 
-  pub settled_in_none : (at : ℕ) (s : S) (bs : List ℕ) → events s bs ≡ [] → settledIn at s bs ≡ []
-  settled_in_none at s bs e = no_places (settledIn at s bs) (settled_in_events at s bs ∙ e)
+  pub settled_in_none : (at : ℕ) (s : S) (bs : List ℕ) → events s bs ≡ [] → settled_in at s bs ≡ []
+  settled_in_none at s bs e = no_places (settled_in at s bs) (settled_in_events at s bs ∙ e)
 
   -- ---- one call, and what is left of its piece, come to what the piece comes to
 
@@ -98,9 +98,9 @@ module _ {S E : Type 0} (next : S → ℕ → Moved S E) where
 
   -- the same with places, whatever comes after the bytes that the call used
   settled_settled_in : (o : Option E) (s : S) (b : ℕ) (bs rest : List ℕ) (at : ℕ)
-      → settledIn (suc at) s (take (scan next s bs).used bs ++ rest) ≡ settled_before (scan next s bs).event (suc at + (scan next s bs).used) (settledIn (suc at + (scan next s bs).used) (scan next s bs).state rest)
-      → settled_before o (suc at) (settledIn (suc at) s (drop 1 (take (settle o s (scan next s bs)).used (b ∷ bs)) ++ rest))
-      ≡ settled_before (settle o s (scan next s bs)).event (at + (settle o s (scan next s bs)).used) (settledIn (at + (settle o s (scan next s bs)).used) (settle o s (scan next s bs)).state rest)
+      → settled_in (suc at) s (take (scan next s bs).used bs ++ rest) ≡ settled_before (scan next s bs).event (suc at + (scan next s bs).used) (settled_in (suc at + (scan next s bs).used) (scan next s bs).state rest)
+      → settled_before o (suc at) (settled_in (suc at) s (drop 1 (take (settle o s (scan next s bs)).used (b ∷ bs)) ++ rest))
+      ≡ settled_before (settle o s (scan next s bs)).event (at + (settle o s (scan next s bs)).used) (settled_in (at + (settle o s (scan next s bs)).used) (settle o s (scan next s bs)).state rest)
   settled_settled_in none s b bs rest at ih = rw (add-suc, ← suc-add) ih
   settled_settled_in (some e) s b bs rest at ih = rw add-one
 
@@ -110,10 +110,10 @@ module _ {S E : Type 0} (next : S → ℕ → Moved S E) where
   settled_uses (some e) s b bs rest = refl
 
   pub scan_settled_in : (s : S) (bs rest : List ℕ) (at : ℕ)
-      → settledIn at s (take (scan next s bs).used bs ++ rest) ≡ settled_before (scan next s bs).event (at + (scan next s bs).used) (settledIn (at + (scan next s bs).used) (scan next s bs).state rest)
+      → settled_in at s (take (scan next s bs).used bs ++ rest) ≡ settled_before (scan next s bs).event (at + (scan next s bs).used) (settled_in (at + (scan next s bs).used) (scan next s bs).state rest)
   scan_settled_in s [] rest at = rw add-zero
   scan_settled_in s (b ∷ bs) rest at =
-      ap (settledIn at s) (settled_uses (next s b).event (next s b).state b bs rest)
+      ap (settled_in at s) (settled_uses (next s b).event (next s b).state b bs rest)
       ∙ settled_settled_in (next s b).event (next s b).state b bs rest at (scan_settled_in (next s b).state bs rest (suc at))
 
   -- ---- a piece called on until it is used up

@@ -15,13 +15,13 @@ use Rattle.stream.specs.Event.{Event, message, Told, done, gives, refuses, outco
 use Rattle.stream.specs.Pieces.{Moved, Called, scan}
 use Rattle.stream.specs.Call.{Seen, lent_least, unmoved, answered, called}
 use Rattle.stream.specs.Written.{written, ended, Each}
-use Rattle.stream.specs.Rule.{Settled, and_on, firstReadings, readings}
-use Rattle.stream.specs.Family.{Family, Call, told_before, sees, Allowed, used, toldFrom, Serves, ends, turns, calls}
+use Rattle.stream.specs.Rule.{Settled, and_on, first_readings, readings}
+use Rattle.stream.specs.Family.{Family, Call, told_before, sees, Allowed, used, told_from, Serves, ends, turns, calls}
 use Rattle.stream.specs.Demands.{as_told, EndsWith, Accepts, BorneOut, Sound, ReadsBack, InPieces, CutAnywhere, Served, CallsExist, Handed, UsedUp, Different, Kept, NeverSpoilt, Demands}
 use Rattle.stream.proofs.BytesOfParts.{bytes_append, bytes_left, bytes_right, bytes_drop}
-use Rattle.stream.proofs.CallsComeTo.{settled_before, events, settledIn, settled_in_events, scan_settled_in}
+use Rattle.stream.proofs.CallsComeTo.{settled_before, events, settled_in, settled_in_events, scan_settled_in}
 use Rattle.stream.proofs.LoopScans.{scan_used, scan_uses, scan_none, scan_front}
-use Rattle.stream.proofs.WrittenIsGiven.{gotAt, Reads, all_given, given_at, given, told_apart}
+use Rattle.stream.proofs.WrittenIsGiven.{got_at, Reads, all_given, given_at, given, told_apart}
 use Rattle.stream.proofs.PromiseOfStep.{in_room}
 use Rattle.stream.proofs.FamilyFacts.{found, Facts}
 use Rattle.stream.proofs.BorneOutByBytes.{ends_later, borne_later}
@@ -134,7 +134,7 @@ module _ (F : Family) (facts : Facts F) where
   shorter n s (b ∷ bs) h = simp length-drop (omega (arith, scan_uses facts.next s (b ∷ bs) (omega arith)))
 
   pub ruled : (n : ℕ) (bs : List ℕ) → length bs ≤ n → (known : F.Known) (s : F.State) → facts.At known s → T (are_bytes bs) → (at : ℕ)
-      → settledIn facts.next at s bs ≡ firstReadings F.rule F.after_event n known at bs
+      → settled_in facts.next at s bs ≡ first_readings F.rule F.after_event n known at bs
   ruled zero [] h known s a g at = refl
   ruled zero (b ∷ bs) h known s a g at = absurd (omega arith)
   ruled (suc n) bs h known s a g at =
@@ -142,11 +142,11 @@ module _ (F : Family) (facts : Facts F) where
       let f = facts.follows known s a bs g in
       let u = (scan next s bs).used in
       let t = (scan next s bs).state in
-      ap (settledIn next at s) (sym (take-append-drop u bs)) ∙ scan_settled_in next s bs (drop u bs) at
-      ∙ found_on_lem (scan next s bs).event at u (settledIn next (at + u) t (drop u bs)) (λ v. firstReadings F.rule F.after_event n F.after_event (at + v) (drop v bs))
-      (λ e. ap (settledIn next (at + u) t) (drop_of_length-le bs {i = u} (omega (arith, scan_none next s bs e))))
+      ap (settled_in next at s) (sym (take-append-drop u bs)) ∙ scan_settled_in next s bs (drop u bs) at
+      ∙ found_on_lem (scan next s bs).event at u (settled_in next (at + u) t (drop u bs)) (λ v. first_readings F.rule F.after_event n F.after_event (at + v) (drop v bs))
+      (λ e. ap (settled_in next (at + u) t) (drop_of_length-le bs {i = u} (omega (arith, scan_none next s bs e))))
       (λ e p. ruled n (drop u bs) (shorter n s bs h) F.after_event t (f.goes_on e p) (bytes_drop u bs g) (at + u))
-      ∙ ap (λ (o : Option (Settled (Event F.Message))). and_on at o (λ v. firstReadings F.rule F.after_event n F.after_event (at + v) (drop v bs))) (sym f.finds)
+      ∙ ap (λ (o : Option (Settled (Event F.Message))). and_on at o (λ v. first_readings F.rule F.after_event n F.after_event (at + v) (drop v bs))) (sym f.finds)
 
   -- and so without the places: from fresh, the events of the machine are those that the rule finds
   pub events_found : (bs : List ℕ) → T (are_bytes bs)
@@ -157,7 +157,7 @@ module _ (F : Family) (facts : Facts F) where
 
   -- what the calls told is what the machine makes of the bytes they used
   pub told_is : (cs : List (Call F.Result)) (s : F.State) → facts.in_range s ≡ true → Allowed F s cs → (at : ℕ)
-      → toldFrom F at cs ≡ map as_told (settledIn facts.next at s (used F cs))
+      → told_from F at cs ≡ map as_told (settled_in facts.next at s (used F cs))
   told_is [] s r al at = refl
   told_is (c ∷ cs) s r al at =
       let next = facts.next in
@@ -165,10 +165,10 @@ module _ (F : Family) (facts : Facts F) where
       let kept = facts.stays_in_range s c.piece c.lent c.later c.result al.1 r in
       let rest = told_is cs (sees F c).state kept al.2 (at + (sees F c).used) in
       ap (told_before (sees F c).told (at + (sees F c).used)) rest
-      ∙ ap (λ (v : Seen F.State F.Message). told_before v.told (at + v.used) (map as_told (settledIn next (at + v.used) v.state (used F cs)))) one
+      ∙ ap (λ (v : Seen F.State F.Message). told_before v.told (at + v.used) (map as_told (settled_in next (at + v.used) v.state (used F cs)))) one
       ∙ told_settled_in (scan next s c.piece).event _ _
       ∙ ap (map as_told) (sym (scan_settled_in next s c.piece (used F cs) at))
-      ∙ ap (λ (v : Seen F.State F.Message). map as_told (settledIn next at s (take v.used c.piece ++ used F cs))) (sym one)
+      ∙ ap (λ (v : Seen F.State F.Message). map as_told (settled_in next at s (take v.used c.piece ++ used F cs))) (sym one)
 
   pub accepts : Accepts F
   accepts cs al g =
@@ -180,13 +180,13 @@ module _ (F : Family) (facts : Facts F) where
   AllBorne whole = Each (λ p. BorneOut F (take p.used whole) (gives p.event))
 
   all_borne : (n : ℕ) (known : F.Known) (at : ℕ) (whole : List ℕ) → T (are_bytes whole) → EndsWith (facts.last_known known) (take at whole)
-      → AllBorne whole (firstReadings F.rule F.after_event n known at (drop at whole))
+      → AllBorne whole (first_readings F.rule F.after_event n known at (drop at whole))
   all_borne zero known at whole g e = tt
   all_borne (suc n) known at whole g e = go (F.rule known (drop at whole)) refl (λ a f. all_borne n F.after_event a whole g f)
     where
       go : (o : Option (Settled (Event F.Message))) → F.rule known (drop at whole) ≡ o
-          → ((a : ℕ) → EndsWith (facts.last_known F.after_event) (take a whole) → AllBorne whole (firstReadings F.rule F.after_event n F.after_event a (drop a whole)))
-          → AllBorne whole (and_on at o (λ u. firstReadings F.rule F.after_event n F.after_event (at + u) (drop u (drop at whole))))
+          → ((a : ℕ) → EndsWith (facts.last_known F.after_event) (take a whole) → AllBorne whole (first_readings F.rule F.after_event n F.after_event a (drop a whole)))
+          → AllBorne whole (and_on at o (λ u. first_readings F.rule F.after_event n F.after_event (at + u) (drop u (drop at whole))))
       go none q ih = tt
       go (some p) q ih =
           let u = p.used in
@@ -194,7 +194,7 @@ module _ (F : Family) (facts : Facts F) where
           let b = facts.borne_out known (drop at whole) (bytes_drop at whole g) p q in
           let split : take (at + u) whole ≡ e.front ++ part = take-add at u whole ∙ ap (λ (l : List ℕ). l ++ take u (drop at whole)) e.joins ∙ append_assoc e.front (facts.last_known known) (take u (drop at whole)) in (
             subst (λ (l : List ℕ). BorneOut F l (gives p.event)) (sym split) (borne_later F e.front part (gives p.event) b.0),
-            subst (λ (l : List ℕ). AllBorne whole (firstReadings F.rule F.after_event n F.after_event (at + u) l)) (sym (drop-drop u at whole))
+            subst (λ (l : List ℕ). AllBorne whole (first_readings F.rule F.after_event n F.after_event (at + u) l)) (sym (drop-drop u at whole))
                 (ih (at + u) (subst (EndsWith (facts.last_known F.after_event)) (sym split) (ends_later e.front b.1))),
           )
 
@@ -239,7 +239,7 @@ module _ (F : Family) (facts : Facts F) where
 
   -- the first n bytes of messages, from any state in which one may begin to be read: each message at its last byte, and nothing else
   pub settled_written : (known : F.Known) (s : F.State) → facts.At known s → (ms : List F.Message) → Each F.Takes ms → (n at : ℕ)
-      → settledIn facts.next at s (take n (written F.wire ms)) ≡ gotAt F.wire message at (take (ended F.wire n ms) ms)
+      → settled_in facts.next at s (take n (written F.wire ms)) ≡ got_at F.wire message at (take (ended F.wire n ms) ms)
   settled_written known s a = given_at facts.next F.wire message F.Takes Rest reads_at_rest s (known, a)
 
   pub written_bytes : (ms : List F.Message) → Each F.Takes ms → T (are_bytes (written F.wire ms))
@@ -258,7 +258,7 @@ module _ (F : Family) (facts : Facts F) where
   handed ms g n cs al cut =
       let next = facts.next in
       ap (map (λ p. p.event)) (told_is cs F.fresh facts.fresh_in_range al 0)
-      ∙ told_events (settledIn next 0 F.fresh (used F cs))
+      ∙ told_events (settled_in next 0 F.fresh (used F cs))
       ∙ ap (map gives) (settled_in_events next 0 F.fresh (used F cs) ∙ ap (events next F.fresh) cut
       ∙ given next F.wire message F.Takes Rest reads_at_rest F.fresh fresh_rests ms g n)
       ∙ told_messages (take (ended F.wire n ms) ms)

@@ -47,13 +47,13 @@ module _ {S M H R : Type 0} (next : S → ℕ → Moved S (Event M)) (in_range :
 
   -- the length of the data that are told of, by a header's own number
   module _ (len : H → ℕ) (counts : (m : M) → len (header m) ≡ length (payload m)) where
-    abbrev lengthTold : Told H → ℕ
-    lengthTold done = 0
-    lengthTold (gives (message h)) = len h
-    lengthTold (gives (damage n lost)) = 0
-    lengthTold (refuses n) = 0
+    abbrev length_told : Told H → ℕ
+    length_told done = 0
+    length_told (gives (message h)) = len h
+    length_told (gives (damage n lost)) = 0
+    length_told (refuses n) = 0
 
-    told_fits : (t : Told M) (lent : List ℕ) → length (delivered payload t lent) ≡ length lent → lengthTold (retold header t) ≤ length lent
+    told_fits : (t : Told M) (lent : List ℕ) → length (delivered payload t lent) ≡ length lent → length_told (retold header t) ≤ length lent
     told_fits done lent e = omega arith
     told_fits (gives (message m)) lent e =
         let own = counts m in
@@ -66,5 +66,5 @@ module _ {S M H R : Type 0} (next : S → ℕ → Moved S (Event M)) (in_range :
         → length later ≡ length lent → (shown r).told ≡ gives (message h) → len h ≤ length lent
     step_fits s piece lent later r h st same told =
         let c = called next in_range s piece lent in
-        let all : len h ≡ lengthTold (retold header c.told) = ap lengthTold (sym told ∙ ap (λ (v : Seen S H). v.told) st.0) in
+        let all : len h ≡ length_told (retold header c.told) = ap length_told (sym told ∙ ap (λ (v : Seen S H). v.told) st.0) in
         omega (arith, told_fits c.told lent (sym (ap length st.1) ∙ same))

@@ -10,25 +10,25 @@ use native.Mathlib.Numerals.{add-one}
 use native.Mathlib.Nat.{zero-add, suc-add, add-suc, add-zero}
 use native.Mathlib.Omega.{arith}
 use Rattle.numbers.proofs.Alike.{zero_is_one}
-use Rattle.stream.specs.Pieces.{Moved, settle, scan, scanFrom}
+use Rattle.stream.specs.Pieces.{Moved, settle, scan, scan_from}
 
 module _ {S E : Type 0} (next : S → ℕ → Moved S E) where
-  -- A LOOP'S INVARIANT is that `scanFrom`, at its state and its place, is the whole call. It holds at the start
-  pub from_start : (s : S) (piece : List ℕ) → scanFrom next s piece 0 ≡ scan next s piece
+  -- A LOOP'S INVARIANT is that `scan_from`, at its state and its place, is the whole call. It holds at the start
+  pub from_start : (s : S) (piece : List ℕ) → scan_from next s piece 0 ≡ scan next s piece
   from_start s piece = rw zero-add
 
   -- a byte that settles nothing keeps it
   pub from_goes : (s t : S) (piece : List ℕ) (i : ℕ) → i < length piece → next s (get_or piece i 0) ≡ record { state = t; event = none }
-      → scanFrom next s piece i ≡ scanFrom next t piece (i + 1)
+      → scan_from next s piece i ≡ scan_from next t piece (i + 1)
   from_goes s t piece i lt c = rw (drop-cons piece i 0 lt, c, add-one, add-suc, suc-add)
 
   -- a byte that settles an event ends the call
   pub from_tells : (s t : S) (e : E) (piece : List ℕ) (i : ℕ) → i < length piece → next s (get_or piece i 0) ≡ record { state = t; event = some e }
-      → scanFrom next s piece i ≡ record { state = t; event = some e; used = i + 1 }
+      → scan_from next s piece i ≡ record { state = t; event = some e; used = i + 1 }
   from_tells s t e piece i lt c = rw (drop-cons piece i 0 lt, c)
 
   -- and so does the end of the piece
-  pub from_end : (s : S) (piece : List ℕ) (i : ℕ) → length piece ≤ i → scanFrom next s piece i ≡ record { state = s; event = none; used = i }
+  pub from_end : (s : S) (piece : List ℕ) (i : ℕ) → length piece ≤ i → scan_from next s piece i ≡ record { state = s; event = none; used = i }
   from_end s piece i le = rw (drop_of_length-le piece le, add-zero)
 
   -- no call uses more than its piece, one on a byte uses at least that byte, and one that gives nothing uses all of it

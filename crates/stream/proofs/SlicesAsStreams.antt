@@ -16,8 +16,8 @@ use Rattle.stream.specs.Event.{Event, message, damage, Told, done, gives, refuse
 use Rattle.stream.specs.Pieces.{Moved, Called, scan}
 use Rattle.stream.specs.Call.{Seen, lent_least, called, delivered, retold, Steps}
 use Rattle.stream.specs.Call as Call
-use Rattle.stream.specs.Rule.{Settled, and_on, firstReadings, readings}
-use Rattle.stream.specs.Family.{Family, Call, Allowed, used, toldFrom}
+use Rattle.stream.specs.Rule.{Settled, and_on, first_readings, readings}
+use Rattle.stream.specs.Family.{Family, Call, Allowed, used, told_from}
 use Rattle.stream.specs.Demands.{as_told}
 use Rattle.stream.specs.Slice.{Asked, asked_of, slice_most, refused, answered, asked, retells, Answers, seen_by, SliceReader, AskedFrom, ends, tells, AskedToTheEnd, AtPlace, SameAsStreaming, GetsOn, AsksExist, Kept, SlicesAsStreams}
 use Rattle.stream.proofs.BytesOfParts.{bytes_drop}
@@ -178,20 +178,20 @@ module _ (F : Family) (facts : Facts F) (G : SliceReader F) (own : SliceFacts F 
   M = F.Message
 
   -- a fresh reader that was handed what counts as seen
-  abbrev readyAt : List ℕ → ℕ → F.State
-  readyAt slice place = (scan facts.next F.fresh (G.handed_first (G.known_at slice place))).state
+  abbrev ready_at : List ℕ → ℕ → F.State
+  ready_at slice place = (scan facts.next F.fresh (G.handed_first (G.known_at slice place))).state
 
   -- the rule at a place, as the scan of that reader
   ruled_at : (slice : List ℕ) (place : ℕ) → T (are_bytes slice)
       → F.rule (G.known_at slice place) (drop place slice)
-      ≡ found (scan facts.next (readyAt slice place) (drop place slice)).event (scan facts.next (readyAt slice place) (drop place slice)).used
+      ≡ found (scan facts.next (ready_at slice place) (drop place slice)).event (scan facts.next (ready_at slice place) (drop place slice)).used
   ruled_at slice place g = (facts.follows (G.known_at slice place) _ (own.ready (G.known_at slice place)) (drop place slice) (bytes_drop place slice g)).finds
 
   -- an event is past the place, and within the slice
   past : (slice : List ℕ) (place : ℕ) (p : Settled (Event M)) → T (are_bytes slice) → place ≤ length slice → F.rule (G.known_at slice place) (drop place slice) ≡ some p
       → (0 < p.used) × (place + p.used ≤ length slice)
   past slice place p g i e =
-      let s = readyAt slice place in
+      let s = ready_at slice place in
       let c = scan facts.next s (drop place slice) in
       let two = some_some c.event c.used p (sym (ruled_at slice place g) ∙ e) in
       let most : c.used ≤ length (drop place slice) = scan_used facts.next s (drop place slice) in
@@ -204,7 +204,7 @@ module _ (F : Family) (facts : Facts F) (G : SliceReader F) (own : SliceFacts F 
 
   -- an event that was told, before what is told from the place given
   abbrev Reads : (slice : List ℕ) (place : ℕ) → List (Settled (Told M)) → Type 0
-  Reads slice place ps = (n : ℕ) → length (drop place slice) ≤ n → ps ≡ map as_told (firstReadings F.rule F.after_event n (G.known_at slice place) place (drop place slice))
+  Reads slice place ps = (n : ℕ) → length (drop place slice) ≤ n → ps ≡ map as_told (first_readings F.rule F.after_event n (G.known_at slice place) place (drop place slice))
 
   told_on : (slice : List ℕ) → T (are_bytes slice) → (place : ℕ) → place ≤ length slice → (p : Settled (Event M)) (e : Event M) (qs : List (Settled (Told M)))
       → F.rule (G.known_at slice place) (drop place slice) ≡ some p → p.event ≡ e → Reads slice (place + p.used) qs
@@ -215,13 +215,13 @@ module _ (F : Family) (facts : Facts F) (G : SliceReader F) (own : SliceFacts F 
       let later = more n (omega (arith, two.0, two.1, length-drop place slice, length-drop (place + p.used) slice)) in
       ap₂ {C = List (Settled (Told M))} (λ (x : Event M) (l : List (Settled (Told M))). record { event = gives x; used = place + p.used } ∷ l) (sym is)
       (later
-      ∙ ap₂ (λ (known : F.Known) (l : List ℕ). map as_told (firstReadings F.rule F.after_event n known (place + p.used) l)) (own.edge slice place p hit) (sym (drop-drop p.used place slice)))
-      ∙ sym (ap (λ (o : Option (Settled (Event M))). map as_told (and_on place o (λ u. firstReadings F.rule F.after_event n F.after_event (place + u) (drop u (drop place slice))))) hit)
+      ∙ ap₂ (λ (known : F.Known) (l : List ℕ). map as_told (first_readings F.rule F.after_event n known (place + p.used) l)) (own.edge slice place p hit) (sym (drop-drop p.used place slice)))
+      ∙ sym (ap (λ (o : Option (Settled (Event M))). map as_told (and_on place o (λ u. first_readings F.rule F.after_event n F.after_event (place + u) (drop u (drop place slice))))) hit)
 
   told_off : (slice : List ℕ) (place : ℕ) → F.rule (G.known_at slice place) (drop place slice) ≡ none → Reads slice place []
   told_off slice place nothing zero k = refl
   told_off slice place nothing (suc n) k =
-      sym (ap (λ (o : Option (Settled (Event M))). map as_told (and_on place o (λ u. firstReadings F.rule F.after_event n F.after_event (place + u) (drop u (drop place slice))))) nothing)
+      sym (ap (λ (o : Option (Settled (Event M))). map as_told (and_on place o (λ u. first_readings F.rule F.after_event n F.after_event (place + u) (drop u (drop place slice))))) nothing)
 
   -- what an ask in its bounds tells
   asks_in : (slice lent later : List ℕ) (place : ℕ) (r : G.Found) → length slice ≤ slice_most → place ≤ length slice → lent_least ≤ length lent → G.Answers slice place lent r later
@@ -245,7 +245,7 @@ module _ (F : Family) (facts : Facts F) (G : SliceReader F) (own : SliceFacts F 
   pub same_as_streaming : SameAsStreaming F G
   same_as_streaming slice h g ps a cs al u =
       asks_read slice h g (omega arith) a (length slice) (omega arith)
-      ∙ ap (λ (known : F.Known). map as_told (firstReadings F.rule F.after_event (length slice) known 0 slice)) (own.start slice)
+      ∙ ap (λ (known : F.Known). map as_told (first_readings F.rule F.after_event (length slice) known 0 slice)) (own.start slice)
       ∙ ap (λ (l : List ℕ). map as_told (readings F.rule F.after_event F.at_start l)) (sym u)
       ∙ sym (accepts F facts cs al (subst (λ (l : List ℕ). T (are_bytes l)) (sym u) g))
 
@@ -254,7 +254,7 @@ module _ (F : Family) (facts : Facts F) (G : SliceReader F) (own : SliceFacts F 
       let next = facts.next in
       let known = G.known_at slice place in
       let bs = drop place slice in
-      let s = readyAt slice place in
+      let s = ready_at slice place in
       let one = facts.steps F.fresh (G.handed_first known) lentFirst laterFirst first stFirst
       ∙ in_room next facts.in_range F.fresh (G.handed_first known) lentFirst facts.fresh_in_range roomFirst in
       let state : (F.seen first laterFirst).state ≡ s = ap (λ (v : Seen F.State M). v.state) one in
@@ -298,7 +298,7 @@ module _ (F : Family) (facts : Facts F) (G : SliceReader F) (own : SliceFacts F 
   answer_there : (slice lent : List ℕ) (place : ℕ) → length slice ≤ slice_most → place ≤ length slice → T (are_bytes slice) → lent_least ≤ length lent → HasAnswer F G slice lent place
   answer_there slice lent place h i g room =
       let known = G.known_at slice place in
-      let s = readyAt slice place in
+      let s = ready_at slice place in
       let ranged : facts.in_range s ≡ true = ready_ranged known lent room in
       let made = facts.results s (drop place slice) lent ranged (bytes_drop place slice g) room in
       own.as_step s slice lent made.later place made.result h i room ranged made.steps (ruled_at slice place g)

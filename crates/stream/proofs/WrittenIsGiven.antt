@@ -15,7 +15,7 @@ use native.Mathlib.Omega.{arith}
 use Rattle.stream.specs.Pieces.{Moved, Called, before, settle, scan}
 use Rattle.stream.specs.Rule.{Settled}
 use Rattle.stream.specs.Written.{written, ended, Each}
-use Rattle.stream.proofs.CallsComeTo.{settled_before, after, events, settledIn, events_append, settled_in_events, settled_in_none, scan_after, scan_events, scan_settled_in, Quiet}
+use Rattle.stream.proofs.CallsComeTo.{settled_before, after, events, settled_in, events_append, settled_in_events, settled_in_none, scan_after, scan_events, scan_settled_in, Quiet}
 
 -- ---- what `ended` counts: message i is counted exactly if the bytes up to and with its last are at most n
 
@@ -78,22 +78,22 @@ pub record Reads {S E : Type 0} (next : S → ℕ → Moved S E) (Rest : S → T
 -- ---- the bytes of one message, and any bytes after them
 
 module _ {S E : Type 0} {next : S → ℕ → Moved S E} {Rest : S → Type 0} {s : S} {w : List ℕ} {e : E} (k : Reads next Rest s w e) (at : ℕ) where
-  read_then : (rest : List ℕ) → settledIn next at s (w ++ rest) ≡ record { event = e; used = at + length w } ∷ settledIn next (at + length w) k.state rest
+  read_then : (rest : List ℕ) → settled_in next at s (w ++ rest) ≡ record { event = e; used = at + length w } ∷ settled_in next (at + length w) k.state rest
   read_then rest =
       let all : take (scan next s w).used w ≡ w = ap (λ (c : Called S E). take c.used w) k.call ∙ take-length w in
-      ap (λ (l : List ℕ). settledIn next at s (l ++ rest)) (sym all)
+      ap (λ (l : List ℕ). settled_in next at s (l ++ rest)) (sym all)
       ∙ scan_settled_in next s w rest at
-      ∙ ap (λ (c : Called S E). settled_before c.event (at + c.used) (settledIn next (at + c.used) c.state rest)) k.call
+      ∙ ap (λ (c : Called S E). settled_before c.event (at + c.used) (settled_in next (at + c.used) c.state rest)) k.call
 
   -- the first n of them: at least all of the message's,
   pub read_whole : (rest : List ℕ) (n : ℕ) → length w ≤ n
-      → settledIn next at s (take n (w ++ rest)) ≡ record { event = e; used = at + length w } ∷ settledIn next (at + length w) k.state (take (n - length w) rest)
+      → settled_in next at s (take n (w ++ rest)) ≡ record { event = e; used = at + length w } ∷ settled_in next (at + length w) k.state (take (n - length w) rest)
   read_whole rest n h =
       let split : n ≡ length w + (n - length w) = omega arith in
-      ap (settledIn next at s) (ap (λ (i : ℕ). take i (w ++ rest)) split ∙ take-append-add w rest (n - length w)) ∙ read_then (take (n - length w) rest)
+      ap (settled_in next at s) (ap (λ (i : ℕ). take i (w ++ rest)) split ∙ take-append-add w rest (n - length w)) ∙ read_then (take (n - length w) rest)
 
   -- or fewer
-  pub read_cut : (rest : List ℕ) (n : ℕ) → n < length w → settledIn next at s (take n (w ++ rest)) ≡ []
+  pub read_cut : (rest : List ℕ) (n : ℕ) → n < length w → settled_in next at s (take n (w ++ rest)) ≡ []
   read_cut rest n h =
       let h' : n ≤ length w = omega arith in
       rw take-append-le (settled_in_none next at s (take n w) (scan_quiet next s w n (ap (λ (c : Called S E). c.used) k.call) h))
@@ -102,11 +102,11 @@ module _ {S E : Type 0} {next : S → ℕ → Moved S E} {Rest : S → Type 0} {
 
 module _ {E M : Type 0} (wire : M → List ℕ) (got : M → E) where
   -- messages one after another, each got at its last byte, where `at` bytes came before
-  abbrev pub gotAt : ℕ → List M → List (Settled E)
-  gotAt at [] = []
-  gotAt at (m ∷ ms) = let last = at + length (wire m) in record { event = got m; used = last } ∷ gotAt last ms
+  abbrev pub got_at : ℕ → List M → List (Settled E)
+  got_at at [] = []
+  got_at at (m ∷ ms) = let last = at + length (wire m) in record { event = got m; used = last } ∷ got_at last ms
 
-  got_events : (at : ℕ) (ms : List M) → map (λ p. p.event) (gotAt at ms) ≡ map got ms
+  got_events : (at : ℕ) (ms : List M) → map (λ p. p.event) (got_at at ms) ≡ map got ms
   got_events at [] = refl
   got_events at (m ∷ ms) = ap (λ (es : List E). got m ∷ es) (got_events (at + length (wire m)) ms)
 
@@ -120,16 +120,16 @@ module _ {S E M : Type 0} (next : S → ℕ → Moved S E) (wire : M → List �
       cc (events_append next s (wire m) (written wire ms), scan_whole next s k.state (wire m) (got m) k.call, scan_lands next s k.state (wire m) (got m) k.call, all_given k.state k.rests ms g.1)
 
   given_step : (s : S) (m : M) (ms : List M) (k : Reads next Rest s (wire m) (got m)) (n at : ℕ)
-      → ((j : ℕ) → settledIn next (at + length (wire m)) k.state (take j (written wire ms)) ≡ gotAt wire got (at + length (wire m)) (take (ended wire j ms) ms))
+      → ((j : ℕ) → settled_in next (at + length (wire m)) k.state (take j (written wire ms)) ≡ got_at wire got (at + length (wire m)) (take (ended wire j ms) ms))
       → (t : Bool) → leb (length (wire m)) n ≡ t
-      → settledIn next at s (take n (wire m ++ written wire ms)) ≡ gotAt wire got at (take (cond t (suc (ended wire (n - length (wire m)) ms)) 0) (m ∷ ms))
+      → settled_in next at s (take n (wire m ++ written wire ms)) ≡ got_at wire got at (take (cond t (suc (ended wire (n - length (wire m)) ms)) 0) (m ∷ ms))
   given_step s m ms k n at ih true h =
       read_whole k at (written wire ms) n (leb-true (length (wire m)) n h)
       ∙ ap {B = List (Settled E)} (λ ps. record { event = got m; used = at + length (wire m) } ∷ ps) (ih (n - length (wire m)))
   given_step s m ms k n at ih false h = read_cut k at (written wire ms) n (leb-false (length (wire m)) n h)
 
   -- the first n bytes: the messages whose last byte is among them, each at that byte, in order, once each, and nothing else
-  pub given_at : (s : S) → Rest s → (ms : List M) → Each Takes ms → (n at : ℕ) → settledIn next at s (take n (written wire ms)) ≡ gotAt wire got at (take (ended wire n ms) ms)
+  pub given_at : (s : S) → Rest s → (ms : List M) → Each Takes ms → (n at : ℕ) → settled_in next at s (take n (written wire ms)) ≡ got_at wire got at (take (ended wire n ms) ms)
   given_at s r [] g n at = rw take-nil
   given_at s r (m ∷ ms) g n at =
       let k : Reads next Rest s (wire m) (got m) = reads s r m g.0 in

@@ -8,7 +8,7 @@ use Rattle.stream.specs.Pieces.{Moved, calls, feed}
 use Rattle.stream.specs.Call.{Seen, lent_least, Steps, whole}
 use Rattle.stream.specs.Written.{written, ended, Each}
 use Rattle.stream.specs.Rule.{Settled, readings}
-use Rattle.stream.specs.Family.{Family, Call, sees, Allowed, used, toldFrom, Serves}
+use Rattle.stream.specs.Family.{Family, Call, sees, Allowed, used, told_from, Serves}
 
 -- ---- laws: they are no demands, since every machine and every family meets them
 
@@ -55,7 +55,7 @@ module _ (F : Family) where
   abbrev pub Accepts : Type 0
   Accepts =
       (cs : List (Call F.Result)) → Allowed F F.fresh cs → T (are_bytes (used F cs))
-      → toldFrom F 0 cs ≡ map as_told (readings F.rule F.after_event F.at_start (used F cs))
+      → told_from F 0 cs ≡ map as_told (readings F.rule F.after_event F.at_start (used F cs))
 
   -- what is told where these bytes were used: a message is one that the writer takes, and the bytes end with its bytes on the wire
   abbrev pub BorneOut : List ℕ → Told F.Message → Type 0
@@ -69,7 +69,7 @@ module _ (F : Family) where
   abbrev pub Sound : Type 0
   Sound =
       (cs : List (Call F.Result)) → Allowed F F.fresh cs → T (are_bytes (used F cs))
-      → Each (λ p. BorneOut (take p.used (used F cs)) p.event) (toldFrom F 0 cs)
+      → Each (λ p. BorneOut (take p.used (used F cs)) p.event) (told_from F 0 cs)
 
   -- DEMAND 2. Each message written reads back as itself, whatever follows it, with any buffer of at least 255 bytes
   abbrev pub ReadsBack : Type 0
@@ -81,7 +81,7 @@ module _ (F : Family) where
 
   -- what calls told are exactly the messages among ms whose last byte is one of the first n, in order, once, and no damage
   abbrev pub TellEnded : List F.Message → ℕ → List (Call F.Result) → Type 0
-  TellEnded ms n cs = map (λ p. p.event) (toldFrom F 0 cs) ≡ map (λ m. gives (message m)) (take (ended F.wire n ms) ms)
+  TellEnded ms n cs = map (λ p. p.event) (told_from F 0 cs) ≡ map (λ m. gives (message m)) (take (ended F.wire n ms) ms)
 
   -- DEMAND 3. Any list of messages, written one after another, cut anywhere into pieces, each piece called on until it is used up, stopped after
   -- any byte, the nth: what was told are exactly the messages whose last byte was handed over, in order, once, and no damage

@@ -58,9 +58,9 @@ module _ (F : Family) where
   used (c ∷ cs) = take (sees c).used c.piece ++ used cs
 
   -- what they told, each with the number of bytes used up to then, where `at` were used before
-  abbrev pub toldFrom : ℕ → List (Call F.Result) → List (Settled (Told F.Message))
-  toldFrom at [] = []
-  toldFrom at (c ∷ cs) = told_before (sees c).told (at + (sees c).used) (toldFrom (at + (sees c).used) cs)
+  abbrev pub told_from : ℕ → List (Call F.Result) → List (Settled (Told F.Message))
+  told_from at [] = []
+  told_from at (c ∷ cs) = told_before (sees c).told (at + (sees c).used) (told_from (at + (sees c).used) cs)
 
 -- EACH PIECE CALLED ON UNTIL IT IS USED UP: the calls cs that a host makes with the pieces ps to hand over, from state s
 pub data Serves (F : Family) : F.State → List (List ℕ) → List (Call F.Result) → Type 0 where

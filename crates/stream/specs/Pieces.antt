@@ -36,8 +36,8 @@ module _ {S E : Type 0} (next : S → ℕ → Moved S E) where
   scan s (b ∷ bs) = settle (next s b).event (next s b).state (scan (next s b).state bs)
 
   -- the same call going on in state s where i bytes of the piece are used: what a loop over the piece keeps
-  abbrev pub scanFrom : S → List ℕ → ℕ → Called S E
-  scanFrom s piece i =
+  abbrev pub scan_from : S → List ℕ → ℕ → Called S E
+  scan_from s piece i =
       let c = scan s (drop i piece) in
       record { state = c.state; event = c.event; used = i + c.used }
 

@@ -16,10 +16,10 @@ and_on at (some found) later = record { event = found.event; used = at + found.u
 -- `after` is what is known after an event
 module _ {K E : Type 0} (rule : K → List ℕ → Option (Settled E)) (after : K) where
   -- the first n events in bs, where `at` bytes came before
-  abbrev pub firstReadings : ℕ → K → ℕ → List ℕ → List (Settled E)
-  firstReadings zero known at bs = []
-  firstReadings (suc n) known at bs = and_on at (rule known bs) (λ used. firstReadings n after (at + used) (drop used bs))
+  abbrev pub first_readings : ℕ → K → ℕ → List ℕ → List (Settled E)
+  first_readings zero known at bs = []
+  first_readings (suc n) known at bs = and_on at (rule known bs) (λ used. first_readings n after (at + used) (drop used bs))
 
   -- ALL EVENTS in bs: each has a byte of its own that settles it, so there are at most as many as bytes
   abbrev pub readings : K → List ℕ → List (Settled E)
-  readings known bs = firstReadings (length bs) known 0 bs
+  readings known bs = first_readings (length bs) known 0 bs

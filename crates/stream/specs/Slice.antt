@@ -5,7 +5,7 @@ use Rattle.std.proofs.Math.Pow.{are_bytes}
 use Rattle.stream.specs.Event.{Event, message, Told, done, gives, refuses, number}
 use Rattle.stream.specs.Call.{lent_least, delivered, retold}
 use Rattle.stream.specs.Rule.{Settled}
-use Rattle.stream.specs.Family.{Family, Call, Allowed, used, toldFrom}
+use Rattle.stream.specs.Family.{Family, Call, Allowed, used, told_from}
 
 -- what a call hands back: document 01's number of its answer, what it tells, and the place after it
 pub record Asked (M : Type 0) : Type 0 where
@@ -98,7 +98,7 @@ module _ (F : Family) (G : SliceReader F) where
       (slice : List ℕ) → length slice ≤ slice_most → T (are_bytes slice)
       → (told : List (Settled (Told F.Message))) → AskedFrom slice 0 told
       → (cs : List (Call F.Result)) → Allowed F F.fresh cs → used F cs ≡ slice
-      → told ≡ toldFrom F 0 cs
+      → told ≡ told_from F 0 cs
 
   -- AND THE ASKING ENDS: each place that is given with a message or a damage is past the place asked and within the slice; with 0 it is the end
   abbrev pub GetsOn : Type 0

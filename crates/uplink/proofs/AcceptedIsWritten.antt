@@ -150,26 +150,26 @@ module _ (s : List ℕ) (port count used : ℕ) (t : Tested s port count used) w
       simp (m.0, m.1, m.2, v.0, v.1, t.port_there, t.count_there)
 
   -- the piece that the packet carries, and what follows the packet
-  abbrev pieceIn : List ℕ
-  pieceIn = take count (drop lead_length s)
+  abbrev piece_in : List ℕ
+  piece_in = take count (drop lead_length s)
 
-  abbrev restIn : List ℕ
-  restIn = drop count (drop lead_length s)
+  abbrev rest_in : List ℕ
+  rest_in = drop count (drop lead_length s)
 
-  line_length_lem : length pieceIn ≡ count
+  line_length_lem : length piece_in ≡ count
   line_length_lem = length-take-le count (drop lead_length s) (simp length-drop (omega arith))
 
-  packet_there : s ≡ packet port pieceIn ++ restIn
+  packet_there : s ≡ packet port piece_in ++ rest_in
   packet_there =
       gets_drop s 0 lead_length t.sound.long
       ∙ ap (λ (h : List ℕ). h ++ drop lead_length s) (lead_there ∙ ap (lead (version_of port) port) (sym line_length_lem))
-      ∙ ap (λ (r : List ℕ). lead (version_of port) port (length pieceIn) ++ r) (sym (take-append-drop count (drop lead_length s)))
+      ∙ ap (λ (r : List ℕ). lead (version_of port) port (length piece_in) ++ r) (sym (take-append-drop count (drop lead_length s)))
 
   takes_there : takes port count ≡ true
   takes_there = simp (t.carries, t.sound.knows, t.counts)
 
   pub begins : Begins s port count used
-  begins = record { piece = pieceIn; rest = restIn; bytes = packet_there; counts = line_length_lem; taken = takes_there; uses = t.uses }
+  begins = record { piece = piece_in; rest = rest_in; bytes = packet_there; counts = line_length_lem; taken = takes_there; uses = t.uses }
 
 -- ---- a packet that the writer takes, with anything after it, is read as what it is
 

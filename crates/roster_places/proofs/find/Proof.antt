@@ -123,19 +123,19 @@ module _ {M : Type 1} {𝓤 : Ura M} (𝓛 : Logic 𝓤) (mem : Memory → SProp
       suffices ! _ (ends_at 𝓛 f.ended stayed (f.clauses 𝓛 mem run) (((κ, (κ', tt)), (q, (q', tt)), bounds, x, at), tt) w r (tt, (tt, tt)) (tt, (tt, tt))) $ says ! e $
       join ! $ frame ! $ nothing ! $ move ! (2 ∷ 0 ∷ []) $ fjoin ! $ move ! (1 ∷ 0 ∷ []) $ fjoin ! $ frame ! $ done !
 
-  abbrev to-gather : (Gather 𝓛 mem run).Ghost
-  to-gather = (((κ, tt), (q, tt), tt, (ref, tt), (slice ∷ [], tt)), tt)
+  abbrev to_gather : (Gather 𝓛 mem run).Ghost
+  to_gather = (((κ, tt), (q, tt), tt, (ref, tt), (slice ∷ [], tt)), tt)
 
-  asks_gather : ent 𝓤 (⋆ 𝓛 (‵ (flft κ q) ∷ ‵ P ∷ [])) ((Gather 𝓛 mem run).pre to-gather)
+  asks_gather : ent 𝓤 (⋆ 𝓛 (‵ (flft κ q) ∷ ‵ P ∷ [])) ((Gather 𝓛 mem run).pre to_gather)
   asks_gather = qed 𝓛 (‵ (flft κ q) ∷ ‵ P ∷ []) ∵ nothing ! $ move ! (1 ∷ 0 ∷ []) $ join ! $ nothing ! $ move ! (2 ∷ 0 ∷ []) $ fjoin ! $ move ! (1 ∷ 0 ∷ []) $ join ! $ frame ! $ done !
 
   said_gather : (r : List ℕ) → ent 𝓤 (ensured 𝓛 g.ended (g.clauses 𝓛 mem run) (κ, tt) (ref, tt) tt r) (fact 𝓤 (length ys ≡ places → places_of r ≡ ys))
   said_gather r = ex_e 𝓤 _ (λ ws. snd∗ 𝓤 (sem 𝓛 (lasts g.ended (κ, tt) (ref, tt) ws)) (fact 𝓤 (length ys ≡ places → places_of r ≡ ys)))
 
-  abbrev to-plan : List ℕ → Val → (PlanFind 𝓛 mem run).Ghost
-  to-plan all v = (((κ', tt), (q', tt), tt, (n, (all, (sref, tt))), (vint w64 n ∷ [], (v ∷ [], (sslice ∷ [], tt)))), tt)
+  abbrev to_plan : List ℕ → Val → (PlanFind 𝓛 mem run).Ghost
+  to_plan all v = (((κ', tt), (q', tt), tt, (n, (all, (sref, tt))), (vint w64 n ∷ [], (v ∷ [], (sslice ∷ [], tt)))), tt)
 
-  asks_plan : n < 2 ^ 64 → (all : List ℕ) (v : Val) → Is AR all (v ∷ []) → ent 𝓤 (⋆ 𝓛 (‵ (flft κ' q') ∷ ‵ S ∷ [])) ((PlanFind 𝓛 mem run).pre (to-plan all v))
+  asks_plan : n < 2 ^ 64 → (all : List ℕ) (v : Val) → Is AR all (v ∷ []) → ent 𝓤 (⋆ 𝓛 (‵ (flft κ' q') ∷ ‵ S ∷ [])) ((PlanFind 𝓛 mem run).pre (to_plan all v))
   asks_plan gn all v ga =
       qed 𝓛 (‵ (flft κ' q') ∷ ‵ S ∷ []) ∵ nothing ! $ move ! (1 ∷ 0 ∷ []) $ join ! $ nothing ! $ move ! (2 ∷ 0 ∷ []) $ fjoin ! $
       owned ! AR (Is AR) (Array-Makes 𝓛 u8 (uint_Makes 𝓛 w8) roster_size) all _ ga $ fjoin ! $ owned ! usize (Is usize) (uint_Makes 𝓛 w64) n _ (refl, gn) $ fjoin ! $
@@ -155,16 +155,16 @@ module _ {M : Type 1} {𝓤 : Ura M} (𝓛 : Logic 𝓤) (mem : Memory → SProp
         -- [κ's token; κ''s; ps; serial; _4; …; _3; …; _2; …; _1; …; room for _0; …]
         assigns ! (of_opd ! (load ! (from ! (fld ! refl (stop !))) (look_in ! 10 (sub ! 1 refl (whole !))))) (from ! (stop !)) (init ! 6 refl (tt, record { fits = gn.0 })) $
         move ! (2 ∷ []) $ use1 𝓛 (‵ P ⊛ ‵ P) ((shr_slice_copy 𝓛 (named 0) κ R).twice ref (slice ∷ [])) $ split ! $ move ! (2 ∷ 0 ∷ []) $
-        use2 𝓛 (raw ((Gather 𝓛 mem run).pre to-gather)) asks_gather $
-        calls_at ! fm (Gather 𝓛 mem run) known-gather to-gather (and_then ! (load ! (from ! (stop !)) (look ! 10 refl)) (no_more !)) (λ v.
+        use2 𝓛 (raw ((Gather 𝓛 mem run).pre to_gather)) asks_gather $
+        calls_at ! fm (Gather 𝓛 mem run) known-gather to_gather (and_then ! (load ! (from ! (stop !)) (look ! 10 refl)) (no_more !)) (λ v.
         use1 𝓛 (later (some (λ (r : List ℕ). ((‵ (flft κ q) ⊛ ‵ ftrue) ⊛ ‵ (AR.own_val r (v ∷ []))) ⊛ raw (ensured 𝓛 g.ended (g.clauses 𝓛 mem run) (κ, tt) (ref, tt) tt r)))) (id⊢ 𝓤 _) $ await ! tt $ pick ! (λ all.
         split ! $ move ! (1 ∷ []) $ use1 𝓛 (raw (fact 𝓤 (length ys ≡ places → places_of all ≡ ys))) (said_gather all) $ heard ! (length ys ≡ places → places_of all ≡ ys) (λ e. split ! $ move ! (1 ∷ []) $
         peeks ! AR (Is AR) (shows 𝓛 AR) all (v ∷ []) (λ ga. drop ! $ split ! $
         -- [κ's token; true; ps; κ''s token; serial; room for _4; …]
         land ! (from ! (stop !)) (init ! 5 refl ((Array-Lawful 𝓛 u8 (uint_Lawful 𝓛 w8) roster_size).typed all (v ∷ []) ga).0) $
         move ! (4 ∷ []) $ use1 𝓛 (‵ S ⊛ ‵ S) ((shr_slice_copy 𝓛 (named 1) κ' u8).twice sref (sslice ∷ [])) $ split ! $ move ! (5 ∷ 0 ∷ []) $
-        use2 𝓛 (raw ((PlanFind 𝓛 mem run).pre (to-plan all v))) (asks_plan gn.0 all v ga) $
-        calls_at ! fm (PlanFind 𝓛 mem run) known-plan (to-plan all v) (and_then ! (load ! (from ! (stop !)) (look ! 7 refl)) (and_then ! (load ! (from ! (stop !)) (look ! 5 refl)) (and_then ! (load ! (from ! (stop !)) (look ! 9 refl)) (no_more !)))) (λ w.
+        use2 𝓛 (raw ((PlanFind 𝓛 mem run).pre (to_plan all v))) (asks_plan gn.0 all v ga) $
+        calls_at ! fm (PlanFind 𝓛 mem run) known-plan (to_plan all v) (and_then ! (load ! (from ! (stop !)) (look ! 7 refl)) (and_then ! (load ! (from ! (stop !)) (look ! 5 refl)) (and_then ! (load ! (from ! (stop !)) (look ! 9 refl)) (no_more !)))) (λ w.
         use1 𝓛 (later (some (λ (r : Found). ((‵ (flft κ' q') ⊛ ‵ ftrue) ⊛ ‵ (AN.own_val r (w ∷ []))) ⊛ raw (ensured 𝓛 h.ended (h.clauses 𝓛 mem run) (κ', tt) (n, (all, (sref, tt))) tt r)))) (id⊢ 𝓤 _) $ await ! tt $ pick ! (λ r.
         split ! $ move ! (1 ∷ []) $ use1 𝓛 (raw (fact 𝓤 (PlansFind n all ss r))) (said_plan all r) $ heard ! (PlansFind n all ss r) (λ e'. split ! $ move ! (1 ∷ []) $
         peeks ! AN (Is AN) (shows 𝓛 AN) r (w ∷ []) (λ gr.

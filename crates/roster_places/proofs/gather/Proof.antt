@@ -180,10 +180,10 @@ module _ {M : Type 1} {𝓤 : Ura M} (𝓛 : Logic 𝓤) (mem : Memory → SProp
         frame ! $ owned ! AR (Is AR) (Array-Makes 𝓛 u8 (uint_Makes 𝓛 w8) roster_size) zs _ gz $ done !
 
     -- what `look` is passed
-    abbrev to-look : ℕ → (Look 𝓛 mem run).Ghost
-    to-look i = (((κ, tt), (q, tt), tt, (ref, (i, (other, tt))), (slice ∷ [], (vint w64 i ∷ [], (mach ∷ [], tt)))), tt)
+    abbrev to_look : ℕ → (Look 𝓛 mem run).Ghost
+    to_look i = (((κ, tt), (q, tt), tt, (ref, (i, (other, tt))), (slice ∷ [], (vint w64 i ∷ [], (mach ∷ [], tt)))), tt)
 
-    asks_look : (i : ℕ) → i < 2 ^ 64 → ent 𝓤 (⋆ 𝓛 (‵ (flft κ q) ∷ ‵ Own ∷ [])) ((Look 𝓛 mem run).pre (to-look i))
+    asks_look : (i : ℕ) → i < 2 ^ 64 → ent 𝓤 (⋆ 𝓛 (‵ (flft κ q) ∷ ‵ Own ∷ [])) ((Look 𝓛 mem run).pre (to_look i))
     asks_look i gi =
         qed 𝓛 (‵ (flft κ q) ∷ ‵ Own ∷ []) ∵ nothing ! $ move ! (1 ∷ 0 ∷ []) $ join ! $
         nothing ! $ owned ! R (Is R) (LL.makes T.the_type T'.the_plain 𝓛) other _ go $ fjoin ! $ owned ! usize (Is usize) (uint_Makes 𝓛 w64) i _ (refl, gi) $ fjoin ! $
@@ -193,10 +193,10 @@ module _ {M : Type 1} {𝓤 : Ura M} (𝓛 : Logic 𝓤) (mem : Memory → SProp
     said_look i r = ex_e 𝓤 _ (λ ws. snd∗ 𝓤 (sem 𝓛 (lasts g.ended (κ, tt) (ref, (i, (other, tt))) ws)) (fact 𝓤 (r ≡ get_or ys i other)))
 
     -- what `with` is passed
-    abbrev to-with : (zs : List ℕ) (v : Val) (i : ℕ) (p : Place) (u : Val) → (With 𝓛 mem run).Ghost
-    to-with zs v i p u = ((tt, tt, tt, (zs, (i, (p, tt))), (v ∷ [], (vint w64 i ∷ [], (u ∷ [], tt)))), tt)
+    abbrev to_with : (zs : List ℕ) (v : Val) (i : ℕ) (p : Place) (u : Val) → (With 𝓛 mem run).Ghost
+    to_with zs v i p u = ((tt, tt, tt, (zs, (i, (p, tt))), (v ∷ [], (vint w64 i ∷ [], (u ∷ [], tt)))), tt)
 
-    asks_with : (zs : List ℕ) (v : Val) (i : ℕ) (p : Place) (u : Val) → Is AR zs (v ∷ []) → i < 254 → Is R p (u ∷ []) → ent 𝓤 (emp 𝓤) ((With 𝓛 mem run).pre (to-with zs v i p u))
+    asks_with : (zs : List ℕ) (v : Val) (i : ℕ) (p : Place) (u : Val) → Is AR zs (v ∷ []) → i < 254 → Is R p (u ∷ []) → ent 𝓤 (emp 𝓤) ((With 𝓛 mem run).pre (to_with zs v i p u))
     asks_with zs v i p u gz gi gp =
         qed 𝓛 [] ∵ says ! gi $ nothing ! $ owned ! R (Is R) (LL.makes T.the_type T'.the_plain 𝓛) p _ gp $ fjoin ! $ owned ! usize (Is usize) (uint_Makes 𝓛 w64) i _ (refl, omega arith) $ fjoin ! $
         owned ! AR (Is AR) (Array-Makes 𝓛 u8 (uint_Makes 𝓛 w8) roster_size) zs _ gz $ fjoin ! $ nothing ! $ done !
@@ -238,15 +238,15 @@ module _ {M : Type 1} {𝓤 : Ura M} (𝓛 : Logic 𝓤) (mem : Memory → SProp
           let lt : s.i < 254 = ltb→lt s.i 254 less in
           -- a copy of the slice goes to `look`
           move ! (1 ∷ []) $ use1 𝓛 (‵ Own ⊛ ‵ Own) ((shr_slice_copy 𝓛 (named 0) κ R).twice ref (slice ∷ [])) $ split ! $ move ! (2 ∷ 0 ∷ []) $
-          use2 𝓛 (raw ((Look 𝓛 mem run).pre (to-look s.i))) (asks_look s.i (omega arith)) $
-          calls_at ! fm (Look 𝓛 mem run) known.look_met (to-look s.i) (and_then ! (load ! (from ! (stop !)) (look ! 12 refl)) (and_then ! (load ! (from ! (stop !)) (look ! 6 refl)) (and_then ! (load ! (from ! (stop !)) (look ! 8 refl)) (no_more !)))) (λ u.
+          use2 𝓛 (raw ((Look 𝓛 mem run).pre (to_look s.i))) (asks_look s.i (omega arith)) $
+          calls_at ! fm (Look 𝓛 mem run) known.look_met (to_look s.i) (and_then ! (load ! (from ! (stop !)) (look ! 12 refl)) (and_then ! (load ! (from ! (stop !)) (look ! 6 refl)) (and_then ! (load ! (from ! (stop !)) (look ! 8 refl)) (no_more !)))) (λ u.
           use1 𝓛 (later (some (λ (r : Place). ((‵ (flft κ q) ⊛ ‵ ftrue) ⊛ ‵ (R.own_val r (u ∷ []))) ⊛ raw (ensured 𝓛 g.ended (g.clauses 𝓛 mem run) (κ, tt) (ref, (s.i, (other, tt))) tt r)))) (id⊢ 𝓤 _) $ await ! tt $ pick ! (λ p.
           split ! $ move ! (1 ∷ []) $ use1 𝓛 (raw (fact 𝓤 (p ≡ get_or ys s.i other))) (said_look s.i p) $ heard ! (p ≡ get_or ys s.i other) (λ e. split ! $ move ! (1 ∷ []) $
           peeks ! R (Is R) (shows 𝓛 R) p (u ∷ []) (λ gp. drop ! $ split ! $
           -- [the token; true; the slice; room for _6; …]
           land ! (from ! (stop !)) (init ! 3 refl (typed p u gp)) $
-          use0 𝓛 (raw ((With 𝓛 mem run).pre (to-with s.zs s.v s.i p u))) (asks_with s.zs s.v s.i p u s.is lt gp) $
-          calls_at ! fm (With 𝓛 mem run) known.with_met (to-with s.zs s.v s.i p u) (and_then ! (load ! (from ! (stop !)) (look ! 12 refl)) (and_then ! (load ! (from ! (stop !)) (look ! 8 refl)) (and_then ! (load ! (from ! (stop !)) (look ! 4 refl)) (no_more !)))) (λ w.
+          use0 𝓛 (raw ((With 𝓛 mem run).pre (to_with s.zs s.v s.i p u))) (asks_with s.zs s.v s.i p u s.is lt gp) $
+          calls_at ! fm (With 𝓛 mem run) known.with_met (to_with s.zs s.v s.i p u) (and_then ! (load ! (from ! (stop !)) (look ! 12 refl)) (and_then ! (load ! (from ! (stop !)) (look ! 8 refl)) (and_then ! (load ! (from ! (stop !)) (look ! 4 refl)) (no_more !)))) (λ w.
           use1 𝓛 (later (some (λ (r : List ℕ). (‵ ftrue ⊛ ‵ (AR.own_val r (w ∷ []))) ⊛ raw (ensured 𝓛 h.ended (h.clauses 𝓛 mem run) tt (s.zs, (s.i, (p, tt))) tt r)))) (id⊢ 𝓤 _) $ await ! tt $ pick ! (λ r.
           split ! $ move ! (1 ∷ []) $ use1 𝓛 (raw (fact 𝓤 (places_of r ≡ set (places_of s.zs) s.i p))) (said_with s.zs s.i p r) $ heard ! (places_of r ≡ set (places_of s.zs) s.i p) (λ e'. split ! $ move ! (1 ∷ []) $
           peeks ! AR (Is AR) (shows 𝓛 AR) r (w ∷ []) (λ gr. drop ! $ drop ! $

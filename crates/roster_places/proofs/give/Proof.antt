@@ -173,20 +173,20 @@ module _ {M : Type 1} {𝓤 : Ura M} (𝓛 : Logic 𝓤) (mem : Memory → SProp
       split ! $ move ! (0 ∷ 2 ∷ []) $ join ! $ frame ! $ move ! (2 ∷ 0 ∷ []) $ fjoin ! $ move ! (1 ∷ 0 ∷ []) $ fjoin ! $ frame ! $ done !
 
   -- ---- `gather`, at the lifetime ν of the call
-  abbrev to-gather : ℕ → GName → (Gather 𝓛 mem run).Ghost
-  to-gather ν δ = (((ν ∷ [], tt), (full_share, tt), tt, (ref δ, tt), (slice ∷ [], tt)), tt)
+  abbrev to_gather : ℕ → GName → (Gather 𝓛 mem run).Ghost
+  to_gather ν δ = (((ν ∷ [], tt), (full_share, tt), tt, (ref δ, tt), (slice ∷ [], tt)), tt)
 
-  asks_gather : (ν : ℕ) (δ : GName) → ent 𝓤 (⋆ 𝓛 (‵ (flft (ν ∷ []) full_share) ∷ ‵ ((ShrSlice (named 0) (ν ∷ []) R).own_val (ref δ) (slice ∷ [])) ∷ [])) ((Gather 𝓛 mem run).pre (to-gather ν δ))
+  asks_gather : (ν : ℕ) (δ : GName) → ent 𝓤 (⋆ 𝓛 (‵ (flft (ν ∷ []) full_share) ∷ ‵ ((ShrSlice (named 0) (ν ∷ []) R).own_val (ref δ) (slice ∷ [])) ∷ [])) ((Gather 𝓛 mem run).pre (to_gather ν δ))
   asks_gather ν δ = qed 𝓛 (‵ (flft (ν ∷ []) full_share) ∷ ‵ ((ShrSlice (named 0) (ν ∷ []) R).own_val (ref δ) (slice ∷ [])) ∷ []) ∵ nothing ! $ move ! (1 ∷ 0 ∷ []) $ join ! $ nothing ! $ move ! (2 ∷ 0 ∷ []) $ fjoin ! $ move ! (1 ∷ 0 ∷ []) $ join ! $ frame ! $ done !
 
   said_gather : (ν : ℕ) (δ : GName) (r : List ℕ) → ent 𝓤 (ensured 𝓛 g.ended (g.clauses 𝓛 mem run) (ν ∷ [], tt) (ref δ, tt) tt r) (fact 𝓤 (length ys ≡ places → places_of r ≡ ys))
   said_gather ν δ r = ex_e 𝓤 _ (λ ws. snd∗ 𝓤 (sem 𝓛 (lasts g.ended (ν ∷ [], tt) (ref δ, tt) ws)) (fact 𝓤 (length ys ≡ places → places_of r ≡ ys)))
 
   -- ---- `plan_give`
-  abbrev to-plan : List ℕ → Val → (PlanGive 𝓛 mem run).Ghost
-  to-plan all v = (((κ', tt), (q', tt), tt, (n, (all, (sref, tt))), (vint w64 n ∷ [], (v ∷ [], (sslice ∷ [], tt)))), tt)
+  abbrev to_plan : List ℕ → Val → (PlanGive 𝓛 mem run).Ghost
+  to_plan all v = (((κ', tt), (q', tt), tt, (n, (all, (sref, tt))), (vint w64 n ∷ [], (v ∷ [], (sslice ∷ [], tt)))), tt)
 
-  asks_plan : n < 2 ^ 64 → (all : List ℕ) (v : Val) → Is AR all (v ∷ []) → ent 𝓤 (⋆ 𝓛 (‵ (flft κ' q') ∷ ‵ S ∷ [])) ((PlanGive 𝓛 mem run).pre (to-plan all v))
+  asks_plan : n < 2 ^ 64 → (all : List ℕ) (v : Val) → Is AR all (v ∷ []) → ent 𝓤 (⋆ 𝓛 (‵ (flft κ' q') ∷ ‵ S ∷ [])) ((PlanGive 𝓛 mem run).pre (to_plan all v))
   asks_plan gn all v ga =
       qed 𝓛 (‵ (flft κ' q') ∷ ‵ S ∷ []) ∵ nothing ! $ move ! (1 ∷ 0 ∷ []) $ join ! $ nothing ! $ move ! (2 ∷ 0 ∷ []) $ fjoin ! $
       owned ! AR (Is AR) (Array-Makes 𝓛 u8 (uint_Makes 𝓛 w8) roster_size) all _ ga $ fjoin ! $ owned ! usize (Is usize) (uint_Makes 𝓛 w64) n _ (refl, gn) $ fjoin ! $
@@ -196,20 +196,20 @@ module _ {M : Type 1} {𝓤 : Ura M} (𝓛 : Logic 𝓤) (mem : Memory → SProp
   said_plan all d = ex_e 𝓤 _ (λ ws. snd∗ 𝓤 (sem 𝓛 (lasts h.ended (κ', tt) (n, (all, (sref, tt))) ws)) (fact 𝓤 (PlansGive n all ss d)))
 
   -- ---- `put`, at the borrow's own lifetime
-  abbrev to-put : Plan → (Put 𝓛 mem run).Ghost
-  to-put d = (((κ, tt), (q, tt), tt, (ref γ, (d.at, (d.place, tt))), (slice ∷ [], (vint w64 d.at ∷ [], (mach d.place ∷ [], tt)))), tt)
+  abbrev to_put : Plan → (Put 𝓛 mem run).Ghost
+  to_put d = (((κ, tt), (q, tt), tt, (ref γ, (d.at, (d.place, tt))), (slice ∷ [], (vint w64 d.at ∷ [], (mach d.place ∷ [], tt)))), tt)
 
-  asks_put : (d : Plan) → Is PL d (mach_plan d ∷ []) → ent 𝓤 (⋆ 𝓛 (‵ (flft κ q) ∷ ‵ P ∷ [])) ((Put 𝓛 mem run).pre (to-put d))
+  asks_put : (d : Plan) → Is PL d (mach_plan d ∷ []) → ent 𝓤 (⋆ 𝓛 (‵ (flft κ q) ∷ ‵ P ∷ [])) ((Put 𝓛 mem run).pre (to_put d))
   asks_put d gd =
       qed 𝓛 (‵ (flft κ q) ∷ ‵ P ∷ []) ∵ nothing ! $ move ! (1 ∷ 0 ∷ []) $ join ! $
       nothing ! $ owned ! R (Is R) (LL.makes T.the_type T'.the_plain 𝓛) d.place _ (place_is d gd) $ fjoin ! $ owned ! usize (Is usize) (uint_Makes 𝓛 w64) d.at _ (refl, at_fits d gd) $ fjoin ! $
       move ! (2 ∷ 0 ∷ []) $ fjoin ! $ move ! (1 ∷ 0 ∷ []) $ join ! $ frame ! $ done !
 
   -- ---- `given_of`
-  abbrev to-given : Plan → (GivenOf 𝓛 mem run).Ghost
-  to-given d = ((tt, tt, tt, (d, tt), (mach_plan d ∷ [], tt)), tt)
+  abbrev to_given : Plan → (GivenOf 𝓛 mem run).Ghost
+  to_given d = ((tt, tt, tt, (d, tt), (mach_plan d ∷ [], tt)), tt)
 
-  asks_given : (d : Plan) → Is PL d (mach_plan d ∷ []) → ent 𝓤 (emp 𝓤) ((GivenOf 𝓛 mem run).pre (to-given d))
+  asks_given : (d : Plan) → Is PL d (mach_plan d ∷ []) → ent 𝓤 (emp 𝓤) ((GivenOf 𝓛 mem run).pre (to_given d))
   asks_given d gd =
       qed 𝓛 [] ∵ nothing ! $ nothing ! $ owned ! PL (Is PL) (LL.makes L.the_type L'.the_plain 𝓛) d _ gd $ fjoin ! $ move ! (1 ∷ 0 ∷ []) $ join ! $ frame ! $ done !
 
@@ -230,9 +230,9 @@ module _ {M : Type 1} {𝓤 : Ura M} (𝓛 : Logic 𝓤) (mem : Memory → SProp
         assigns ! (agg ! (and_then ! (load ! (from ! (stop !)) (look ! 12 refl)) (and_then ! (load ! (from ! (fld ! refl (stop !))) (look_in ! 22 (sub ! 1 refl (whole !)))) (no_more !)))) (from ! (stop !)) (init ! 10 refl (tt, (tt, (record { fits = gn.0 }, tt)))) $
         -- the `&mut` is lent as a `&`, for a lifetime ν of the call
         move ! (2 ∷ 0 ∷ []) $ use2 𝓛 (later (some (λ (ν : ℕ). some (λ (δ : GName). ‵ (flft (ν ∷ []) full_share) ⊛ ‵ ((ShrSlice (named 0) (ν ∷ []) R).own_val (ref δ) (slice ∷ [])) ⊛ ‵ (LentShared R κ q γ b o ys ν))))) (shares_out R κ q γ b o ys 𝓛 (named 0) (named 0) gn) $
-        await ! tt $ pick ! (λ ν. pick ! (λ δ. split ! $ move ! (1 ∷ []) $ split ! $ move ! (2 ∷ 0 ∷ []) $ use2 𝓛 (raw ((Gather 𝓛 mem run).pre (to-gather ν δ))) (asks_gather ν δ) $
+        await ! tt $ pick ! (λ ν. pick ! (λ δ. split ! $ move ! (1 ∷ []) $ split ! $ move ! (2 ∷ 0 ∷ []) $ use2 𝓛 (raw ((Gather 𝓛 mem run).pre (to_gather ν δ))) (asks_gather ν δ) $
         -- [what `gather` asks; what is kept of ps; κ''s token; serial; _10; …]
-        calls_at ! fm (Gather 𝓛 mem run) known.gather_met (to-gather ν δ) (and_then ! (load ! (from ! (stop !)) (look ! 10 refl)) (no_more !)) (λ v.
+        calls_at ! fm (Gather 𝓛 mem run) known.gather_met (to_gather ν δ) (and_then ! (load ! (from ! (stop !)) (look ! 10 refl)) (no_more !)) (λ v.
         use1 𝓛 (later (some (λ (r : List ℕ). ((‵ (flft (ν ∷ []) full_share) ⊛ ‵ ftrue) ⊛ ‵ (AR.own_val r (v ∷ []))) ⊛ raw (ensured 𝓛 g.ended (g.clauses 𝓛 mem run) (ν ∷ [], tt) (ref δ, tt) tt r)))) (id⊢ 𝓤 _) $ await ! tt $ pick ! (λ all.
         split ! $ move ! (1 ∷ []) $ use1 𝓛 (raw (fact 𝓤 (length ys ≡ places → places_of all ≡ ys))) (said_gather ν δ all) $ heard ! (length ys ≡ places → places_of all ≡ ys) (λ e. split ! $ move ! (1 ∷ []) $
         peeks ! AR (Is AR) (shows 𝓛 AR) all (v ∷ []) (λ ga. drop ! $ split ! $
@@ -241,8 +241,8 @@ module _ {M : Type 1} {𝓤 : Ura M} (𝓛 : Logic 𝓤) (mem : Memory → SProp
         move ! (0 ∷ 2 ∷ []) $ use2 𝓛 (later (‵ P ⊛ ‵ (flft κ q))) (shares_back R κ q γ b o ys 𝓛 (named 0) (named 0) gn ν) $ await ! tt $ split ! $ move ! (2 ∷ []) $ drop ! $
         -- [ps; κ's token; κ''s; serial; _10; …]
         move ! (3 ∷ []) $ use1 𝓛 (‵ S ⊛ ‵ S) ((shr_slice_copy 𝓛 (named 1) κ' u8).twice sref (sslice ∷ [])) $ split ! $ move ! (4 ∷ 0 ∷ []) $
-        use2 𝓛 (raw ((PlanGive 𝓛 mem run).pre (to-plan all v))) (asks_plan gn.0 all v ga) $
-        calls_at ! fm (PlanGive 𝓛 mem run) known.plan_met (to-plan all v) (and_then ! (load ! (from ! (stop !)) (look ! 18 refl)) (and_then ! (load ! (from ! (stop !)) (look ! 16 refl)) (and_then ! (load ! (from ! (stop !)) (look ! 20 refl)) (no_more !)))) (λ w.
+        use2 𝓛 (raw ((PlanGive 𝓛 mem run).pre (to_plan all v))) (asks_plan gn.0 all v ga) $
+        calls_at ! fm (PlanGive 𝓛 mem run) known.plan_met (to_plan all v) (and_then ! (load ! (from ! (stop !)) (look ! 18 refl)) (and_then ! (load ! (from ! (stop !)) (look ! 16 refl)) (and_then ! (load ! (from ! (stop !)) (look ! 20 refl)) (no_more !)))) (λ w.
         use1 𝓛 (later (some (λ (r : Plan). ((‵ (flft κ' q') ⊛ ‵ ftrue) ⊛ ‵ (PL.own_val r (w ∷ []))) ⊛ raw (ensured 𝓛 h.ended (h.clauses 𝓛 mem run) (κ', tt) (n, (all, (sref, tt))) tt r)))) (id⊢ 𝓤 _) $ await ! tt $ pick ! (λ d.
         split ! $ move ! (1 ∷ []) $ use1 𝓛 (raw (fact 𝓤 (PlansGive n all ss d))) (said_plan all d) $ heard ! (PlansGive n all ss d) (λ e'. split ! $ move ! (1 ∷ []) $
         peeks ! PL (Is PL) (shows 𝓛 PL) d (w ∷ []) (λ gw. drop ! $
@@ -254,8 +254,8 @@ module _ {M : Type 1} {𝓤 : Ura M} (𝓛 : Logic 𝓤) (mem : Memory → SProp
         assigns ! (addr ! (from ! (fld ! refl (hop ! (look_in ! 22 (sub ! 0 refl (whole !))) (stop !))))) (from ! (stop !)) (init ! 6 refl (tt, tt)) $
         assigns ! (agg ! (and_then ! (load ! (from ! (stop !)) (look ! 6 refl)) (and_then ! (load ! (from ! (fld ! refl (stop !))) (look_in ! 22 (sub ! 1 refl (whole !)))) (no_more !)))) (from ! (stop !)) (init ! 4 refl (tt, (tt, (record { fits = gn.0 }, tt)))) $
         -- the `&mut` goes on to `put`
-        move ! (3 ∷ 2 ∷ []) $ use2 𝓛 (raw ((Put 𝓛 mem run).pre (to-put d))) (asks_put d gd) $
-        calls_at ! fm (Put 𝓛 mem run) known.put_met (to-put d) (and_then ! (load ! (from ! (stop !)) (look ! 3 refl)) (and_then ! (load ! (from ! (fld ! refl (stop !))) (look_in ! 13 (sub ! 0 refl (whole !)))) (and_then ! (load ! (from ! (fld ! {d = 8} refl (stop !))) (look_in ! 13 (sub ! 1 {d = 8} refl (whole !)))) (no_more !)))) (λ y.
+        move ! (3 ∷ 2 ∷ []) $ use2 𝓛 (raw ((Put 𝓛 mem run).pre (to_put d))) (asks_put d gd) $
+        calls_at ! fm (Put 𝓛 mem run) known.put_met (to_put d) (and_then ! (load ! (from ! (stop !)) (look ! 3 refl)) (and_then ! (load ! (from ! (fld ! refl (stop !))) (look_in ! 13 (sub ! 0 refl (whole !)))) (and_then ! (load ! (from ! (fld ! {d = 8} refl (stop !))) (look_in ! 13 (sub ! 1 {d = 8} refl (whole !)))) (no_more !)))) (λ y.
         use1 𝓛 (later (some (λ (r : Unit {0}). ((‵ (flft κ q) ⊛ ‵ ftrue) ⊛ ‵ (Nothing.own_val r (y ∷ []))) ⊛ raw (ensured 𝓛 p.ended (p.clauses 𝓛 mem run) (κ, tt) (ref γ, (d.at, (d.place, tt))) tt r)))) (id⊢ 𝓤 _) $ await ! tt $ pick ! (λ r.
         split ! $ move ! (1 ∷ []) $ use1 𝓛 (some (λ (zs : List Place × (Unit {0} × (Unit {0} × Unit {0}))). ‵ (lasts p.ended (κ, tt) (ref γ, (d.at, (d.place, tt))) zs) ⊛ raw (fact 𝓤 (zs.0 ≡ set ys d.at d.place)))) (id⊢ 𝓤 _) $ pick ! (λ zs.
         split ! $ move ! (1 ∷ []) $ heard ! (zs.0 ≡ set ys d.at d.place) (λ e''. fsplit ! $ fsplit ! $ move ! (1 ∷ []) $ feq_l ! (λ l.
@@ -263,8 +263,8 @@ module _ {M : Type 1} {𝓤 : Ura M} (𝓛 : Logic 𝓤) (mem : Memory → SProp
         -- [(); κ's token; the last list; …; κ''s token; serial; _10; …; _9; …; _8; …; _7; …; _6; …; _5; …; _4; …; _3; …; _2; …; _1; …; room for _0; …]
         land ! (from ! (stop !)) (init ! 10 refl ((Nothing-Lawful 𝓛).typed r _ is).0) $
         -- the plan goes on to `given_of`
-        use0 𝓛 (raw ((GivenOf 𝓛 mem run).pre (to-given d))) (asks_given d gd) $
-        calls_at ! fm (GivenOf 𝓛 mem run) known.given_met (to-given d) (and_then ! (load ! (from ! (stop !)) (look ! 17 refl)) (no_more !)) (λ v'.
+        use0 𝓛 (raw ((GivenOf 𝓛 mem run).pre (to_given d))) (asks_given d gd) $
+        calls_at ! fm (GivenOf 𝓛 mem run) known.given_met (to_given d) (and_then ! (load ! (from ! (stop !)) (look ! 17 refl)) (no_more !)) (λ v'.
         use1 𝓛 (later (some (λ (r' : Answer). (‵ ftrue ⊛ ‵ (AN.own_val r' (v' ∷ []))) ⊛ raw (ensured 𝓛 u.ended (u.clauses 𝓛 mem run) tt (d, tt) tt r')))) (id⊢ 𝓤 _) $ await ! tt $ pick ! (λ r'.
         split ! $ move ! (1 ∷ []) $ use1 𝓛 (raw (fact 𝓤 (r' ≡ d.given))) (said_given d r') $ heard ! (r' ≡ d.given) (λ e'''. split ! $ move ! (1 ∷ []) $
         peeks ! AN (Is AN) (shows 𝓛 AN) r' (v' ∷ []) (λ gr.

@@ -163,10 +163,10 @@ module _ {M : Type 1} {𝓤 : Ura M} (𝓛 : Logic 𝓤) (mem : Memory → SProp
       frame ! $ nothing ! $ owned ! u8 (Is u8) (uint_Makes 𝓛 w8) address _ (refl, fits) $ fjoin ! $ move ! (1 ∷ 0 ∷ []) $ fjoin ! $ frame ! $ done !
 
   -- ---- `gather`, at the lifetime ν of the call
-  abbrev to-gather : ℕ → GName → (Gather 𝓛 mem run).Ghost
-  to-gather ν δ = (((ν ∷ [], tt), (full_share, tt), tt, (ref δ, tt), (slice ∷ [], tt)), tt)
+  abbrev to_gather : ℕ → GName → (Gather 𝓛 mem run).Ghost
+  to_gather ν δ = (((ν ∷ [], tt), (full_share, tt), tt, (ref δ, tt), (slice ∷ [], tt)), tt)
 
-  asks_gather : (ν : ℕ) (δ : GName) → ent 𝓤 (⋆ 𝓛 (‵ (flft (ν ∷ []) full_share) ∷ ‵ ((ShrSlice (named 0) (ν ∷ []) R).own_val (ref δ) (slice ∷ [])) ∷ [])) ((Gather 𝓛 mem run).pre (to-gather ν δ))
+  asks_gather : (ν : ℕ) (δ : GName) → ent 𝓤 (⋆ 𝓛 (‵ (flft (ν ∷ []) full_share) ∷ ‵ ((ShrSlice (named 0) (ν ∷ []) R).own_val (ref δ) (slice ∷ [])) ∷ [])) ((Gather 𝓛 mem run).pre (to_gather ν δ))
   asks_gather ν δ = qed 𝓛 (‵ (flft (ν ∷ []) full_share) ∷ ‵ ((ShrSlice (named 0) (ν ∷ []) R).own_val (ref δ) (slice ∷ [])) ∷ []) ∵ nothing ! $ move ! (1 ∷ 0 ∷ []) $ join ! $ nothing ! $ move ! (2 ∷ 0 ∷ []) $ fjoin ! $ move ! (1 ∷ 0 ∷ []) $ join ! $ frame ! $ done !
 
   said_gather : (ν : ℕ) (δ : GName) (r : List ℕ) → ent 𝓤 (ensured 𝓛 g.ended (g.clauses 𝓛 mem run) (ν ∷ [], tt) (ref δ, tt) tt r) (fact 𝓤 (length ys ≡ places → places_of r ≡ ys))
@@ -176,10 +176,10 @@ module _ {M : Type 1} {𝓤 : Ura M} (𝓛 : Logic 𝓤) (mem : Memory → SProp
   abbrev Planned : List ℕ → Plan → Type 0
   Planned all d = PlansRemove n all address d
 
-  abbrev to-plan : List ℕ → Val → (PlanRemove 𝓛 mem run).Ghost
-  to-plan all v = ((tt, tt, tt, (n, (all, (address, tt))), (vint w64 n ∷ [], (v ∷ [], (vint w8 address ∷ [], tt)))), tt)
+  abbrev to_plan : List ℕ → Val → (PlanRemove 𝓛 mem run).Ghost
+  to_plan all v = ((tt, tt, tt, (n, (all, (address, tt))), (vint w64 n ∷ [], (v ∷ [], (vint w8 address ∷ [], tt)))), tt)
 
-  asks_plan : n < 2 ^ 64 → (all : List ℕ) (v : Val) → Is AR all (v ∷ []) → ent 𝓤 (emp 𝓤) ((PlanRemove 𝓛 mem run).pre (to-plan all v))
+  asks_plan : n < 2 ^ 64 → (all : List ℕ) (v : Val) → Is AR all (v ∷ []) → ent 𝓤 (emp 𝓤) ((PlanRemove 𝓛 mem run).pre (to_plan all v))
   asks_plan gn all v ga =
       qed 𝓛 [] ∵ nothing ! $ owned ! u8 (Is u8) (uint_Makes 𝓛 w8) address _ (refl, fits) $ fjoin ! $
       owned ! AR (Is AR) (Array-Makes 𝓛 u8 (uint_Makes 𝓛 w8) roster_size) all _ ga $ fjoin ! $ owned ! usize (Is usize) (uint_Makes 𝓛 w64) n _ (refl, gn) $ fjoin ! $
@@ -189,20 +189,20 @@ module _ {M : Type 1} {𝓤 : Ura M} (𝓛 : Logic 𝓤) (mem : Memory → SProp
   said_plan all d = ex_e 𝓤 _ (λ ws. snd∗ 𝓤 (sem 𝓛 (lasts h.ended tt (n, (all, (address, tt))) ws)) (fact 𝓤 (Planned all d)))
 
   -- ---- `put`, at the borrow's own lifetime
-  abbrev to-put : Plan → (Put 𝓛 mem run).Ghost
-  to-put d = (((κ, tt), (q, tt), tt, (ref γ, (d.at, (d.place, tt))), (slice ∷ [], (vint w64 d.at ∷ [], (mach d.place ∷ [], tt)))), tt)
+  abbrev to_put : Plan → (Put 𝓛 mem run).Ghost
+  to_put d = (((κ, tt), (q, tt), tt, (ref γ, (d.at, (d.place, tt))), (slice ∷ [], (vint w64 d.at ∷ [], (mach d.place ∷ [], tt)))), tt)
 
-  asks_put : (d : Plan) → Is PL d (mach_plan d ∷ []) → ent 𝓤 (⋆ 𝓛 (‵ (flft κ q) ∷ ‵ P ∷ [])) ((Put 𝓛 mem run).pre (to-put d))
+  asks_put : (d : Plan) → Is PL d (mach_plan d ∷ []) → ent 𝓤 (⋆ 𝓛 (‵ (flft κ q) ∷ ‵ P ∷ [])) ((Put 𝓛 mem run).pre (to_put d))
   asks_put d gd =
       qed 𝓛 (‵ (flft κ q) ∷ ‵ P ∷ []) ∵ nothing ! $ move ! (1 ∷ 0 ∷ []) $ join ! $
       nothing ! $ owned ! R (Is R) (LL.makes T.the_type T'.the_plain 𝓛) d.place _ (place_is d gd) $ fjoin ! $ owned ! usize (Is usize) (uint_Makes 𝓛 w64) d.at _ (refl, at_fits d gd) $ fjoin ! $
       move ! (2 ∷ 0 ∷ []) $ fjoin ! $ move ! (1 ∷ 0 ∷ []) $ join ! $ frame ! $ done !
 
   -- ---- `removed_of`
-  abbrev to-removed : Plan → (RemovedOf 𝓛 mem run).Ghost
-  to-removed d = ((tt, tt, tt, (d, tt), (mach_plan d ∷ [], tt)), tt)
+  abbrev to_removed : Plan → (RemovedOf 𝓛 mem run).Ghost
+  to_removed d = ((tt, tt, tt, (d, tt), (mach_plan d ∷ [], tt)), tt)
 
-  asks_removed : (d : Plan) → Is PL d (mach_plan d ∷ []) → ent 𝓤 (emp 𝓤) ((RemovedOf 𝓛 mem run).pre (to-removed d))
+  asks_removed : (d : Plan) → Is PL d (mach_plan d ∷ []) → ent 𝓤 (emp 𝓤) ((RemovedOf 𝓛 mem run).pre (to_removed d))
   asks_removed d gd =
       qed 𝓛 [] ∵ nothing ! $ nothing ! $ owned ! PL (Is PL) (LL.makes L.the_type L'.the_plain 𝓛) d _ gd $ fjoin ! $ move ! (1 ∷ 0 ∷ []) $ join ! $ frame ! $ done !
 
@@ -223,9 +223,9 @@ module _ {M : Type 1} {𝓤 : Ura M} (𝓛 : Logic 𝓤) (mem : Memory → SProp
         assigns ! (agg ! (and_then ! (load ! (from ! (stop !)) (look ! 10 refl)) (and_then ! (load ! (from ! (fld ! refl (stop !))) (look_in ! 20 (sub ! 1 refl (whole !)))) (no_more !)))) (from ! (stop !)) (init ! 8 refl (tt, (tt, (record { fits = gn.0 }, tt)))) $
         -- the `&mut` is lent as a `&`, for a lifetime ν of the call
         move ! (1 ∷ 0 ∷ []) $ use2 𝓛 (later (some (λ (ν : ℕ). some (λ (δ : GName). ‵ (flft (ν ∷ []) full_share) ⊛ ‵ ((ShrSlice (named 0) (ν ∷ []) R).own_val (ref δ) (slice ∷ [])) ⊛ ‵ (LentShared R κ q γ b o ys ν))))) (shares_out R κ q γ b o ys 𝓛 (named 0) (named 0) gn) $
-        await ! tt $ pick ! (λ ν. pick ! (λ δ. split ! $ move ! (1 ∷ []) $ split ! $ move ! (2 ∷ 0 ∷ []) $ use2 𝓛 (raw ((Gather 𝓛 mem run).pre (to-gather ν δ))) (asks_gather ν δ) $
+        await ! tt $ pick ! (λ ν. pick ! (λ δ. split ! $ move ! (1 ∷ []) $ split ! $ move ! (2 ∷ 0 ∷ []) $ use2 𝓛 (raw ((Gather 𝓛 mem run).pre (to_gather ν δ))) (asks_gather ν δ) $
         -- [what `gather` asks; what is kept of ps; _10; …]
-        calls_at ! fm (Gather 𝓛 mem run) known.gather_met (to-gather ν δ) (and_then ! (load ! (from ! (stop !)) (look ! 8 refl)) (no_more !)) (λ v.
+        calls_at ! fm (Gather 𝓛 mem run) known.gather_met (to_gather ν δ) (and_then ! (load ! (from ! (stop !)) (look ! 8 refl)) (no_more !)) (λ v.
         use1 𝓛 (later (some (λ (r : List ℕ). ((‵ (flft (ν ∷ []) full_share) ⊛ ‵ ftrue) ⊛ ‵ (AR.own_val r (v ∷ []))) ⊛ raw (ensured 𝓛 g.ended (g.clauses 𝓛 mem run) (ν ∷ [], tt) (ref δ, tt) tt r)))) (id⊢ 𝓤 _) $ await ! tt $ pick ! (λ all.
         split ! $ move ! (1 ∷ []) $ use1 𝓛 (raw (fact 𝓤 (length ys ≡ places → places_of all ≡ ys))) (said_gather ν δ all) $ heard ! (length ys ≡ places → places_of all ≡ ys) (λ e. split ! $ move ! (1 ∷ []) $
         peeks ! AR (Is AR) (shows 𝓛 AR) all (v ∷ []) (λ ga. drop ! $ split ! $
@@ -233,8 +233,8 @@ module _ {M : Type 1} {𝓤 : Ura M} (𝓛 : Logic 𝓤) (mem : Memory → SProp
         -- the lifetime is ended, and the `&mut` comes back as it was
         move ! (0 ∷ 2 ∷ []) $ use2 𝓛 (later (‵ P ⊛ ‵ (flft κ q))) (shares_back R κ q γ b o ys 𝓛 (named 0) (named 0) gn ν) $ await ! tt $ split ! $ move ! (2 ∷ []) $ drop ! $
         -- [ps; the token; _10; …]
-        use0 𝓛 (raw ((PlanRemove 𝓛 mem run).pre (to-plan all v))) (asks_plan gn.0 all v ga) $
-        calls_at ! fm (PlanRemove 𝓛 mem run) known.plan_met (to-plan all v) (and_then ! (load ! (from ! (stop !)) (look ! 17 refl)) (and_then ! (load ! (from ! (stop !)) (look ! 15 refl)) (and_then ! (load ! (from ! (stop !)) (look ! 19 refl)) (no_more !)))) (λ w.
+        use0 𝓛 (raw ((PlanRemove 𝓛 mem run).pre (to_plan all v))) (asks_plan gn.0 all v ga) $
+        calls_at ! fm (PlanRemove 𝓛 mem run) known.plan_met (to_plan all v) (and_then ! (load ! (from ! (stop !)) (look ! 17 refl)) (and_then ! (load ! (from ! (stop !)) (look ! 15 refl)) (and_then ! (load ! (from ! (stop !)) (look ! 19 refl)) (no_more !)))) (λ w.
         use1 𝓛 (later (some (λ (r : Plan). (‵ ftrue ⊛ ‵ (PL.own_val r (w ∷ []))) ⊛ raw (ensured 𝓛 h.ended (h.clauses 𝓛 mem run) tt (n, (all, (address, tt))) tt r)))) (id⊢ 𝓤 _) $ await ! tt $ pick ! (λ d.
         split ! $ move ! (1 ∷ []) $ use1 𝓛 (raw (fact 𝓤 (Planned all d))) (said_plan all d) $ heard ! (Planned all d) (λ e'. split ! $ move ! (1 ∷ []) $
         peeks ! PL (Is PL) (shows 𝓛 PL) d (w ∷ []) (λ gw. drop ! $ drop ! $
@@ -246,8 +246,8 @@ module _ {M : Type 1} {𝓤 : Ura M} (𝓛 : Logic 𝓤) (mem : Memory → SProp
         assigns ! (addr ! (from ! (fld ! refl (hop ! (look_in ! 20 (sub ! 0 refl (whole !))) (stop !))))) (from ! (stop !)) (init ! 4 refl (tt, tt)) $
         assigns ! (agg ! (and_then ! (load ! (from ! (stop !)) (look ! 4 refl)) (and_then ! (load ! (from ! (fld ! refl (stop !))) (look_in ! 20 (sub ! 1 refl (whole !)))) (no_more !)))) (from ! (stop !)) (init ! 2 refl (tt, (tt, (record { fits = gn.0 }, tt)))) $
         -- the `&mut` goes on to `put`
-        move ! (1 ∷ 0 ∷ []) $ use2 𝓛 (raw ((Put 𝓛 mem run).pre (to-put d))) (asks_put d gd) $
-        calls_at ! fm (Put 𝓛 mem run) known.put_met (to-put d) (and_then ! (load ! (from ! (stop !)) (look ! 1 refl)) (and_then ! (load ! (from ! (fld ! refl (stop !))) (look_in ! 11 (sub ! 0 refl (whole !)))) (and_then ! (load ! (from ! (fld ! {d = 8} refl (stop !))) (look_in ! 11 (sub ! 1 {d = 8} refl (whole !)))) (no_more !)))) (λ y.
+        move ! (1 ∷ 0 ∷ []) $ use2 𝓛 (raw ((Put 𝓛 mem run).pre (to_put d))) (asks_put d gd) $
+        calls_at ! fm (Put 𝓛 mem run) known.put_met (to_put d) (and_then ! (load ! (from ! (stop !)) (look ! 1 refl)) (and_then ! (load ! (from ! (fld ! refl (stop !))) (look_in ! 11 (sub ! 0 refl (whole !)))) (and_then ! (load ! (from ! (fld ! {d = 8} refl (stop !))) (look_in ! 11 (sub ! 1 {d = 8} refl (whole !)))) (no_more !)))) (λ y.
         use1 𝓛 (later (some (λ (r : Unit {0}). ((‵ (flft κ q) ⊛ ‵ ftrue) ⊛ ‵ (Nothing.own_val r (y ∷ []))) ⊛ raw (ensured 𝓛 p.ended (p.clauses 𝓛 mem run) (κ, tt) (ref γ, (d.at, (d.place, tt))) tt r)))) (id⊢ 𝓤 _) $ await ! tt $ pick ! (λ r.
         split ! $ move ! (1 ∷ []) $ use1 𝓛 (some (λ (zs : List Place × (Unit {0} × (Unit {0} × Unit {0}))). ‵ (lasts p.ended (κ, tt) (ref γ, (d.at, (d.place, tt))) zs) ⊛ raw (fact 𝓤 (zs.0 ≡ set ys d.at d.place)))) (id⊢ 𝓤 _) $ pick ! (λ zs.
         split ! $ move ! (1 ∷ []) $ heard ! (zs.0 ≡ set ys d.at d.place) (λ e''. fsplit ! $ fsplit ! $ move ! (1 ∷ []) $ feq_l ! (λ l.
@@ -255,8 +255,8 @@ module _ {M : Type 1} {𝓤 : Ura M} (𝓛 : Logic 𝓤) (mem : Memory → SProp
         -- [(); the token; the last list; …; _10; …; _9; …; _8; …; _7; …; _6; …; _5; …; _4; …; _3; …; _2; …; _1; …; room for _0; …]
         land ! (from ! (stop !)) (init ! 8 refl ((Nothing-Lawful 𝓛).typed r _ is).0) $
         -- the plan goes on to `removed_of`
-        use0 𝓛 (raw ((RemovedOf 𝓛 mem run).pre (to-removed d))) (asks_removed d gd) $
-        calls_at ! fm (RemovedOf 𝓛 mem run) known.removed_met (to-removed d) (and_then ! (load ! (from ! (stop !)) (look ! 15 refl)) (no_more !)) (λ v'.
+        use0 𝓛 (raw ((RemovedOf 𝓛 mem run).pre (to_removed d))) (asks_removed d gd) $
+        calls_at ! fm (RemovedOf 𝓛 mem run) known.removed_met (to_removed d) (and_then ! (load ! (from ! (stop !)) (look ! 15 refl)) (no_more !)) (λ v'.
         use1 𝓛 (later (some (λ (r' : Answer). (‵ ftrue ⊛ ‵ (AN.own_val r' (v' ∷ []))) ⊛ raw (ensured 𝓛 u.ended (u.clauses 𝓛 mem run) tt (d, tt) tt r')))) (id⊢ 𝓤 _) $ await ! tt $ pick ! (λ r'.
         split ! $ move ! (1 ∷ []) $ use1 𝓛 (raw (fact 𝓤 (r' ≡ d.removed))) (said_removed d r') $ heard ! (r' ≡ d.removed) (λ e'''. split ! $ move ! (1 ∷ []) $
         peeks ! AN (Is AN) (shows 𝓛 AN) r' (v' ∷ []) (λ gr.

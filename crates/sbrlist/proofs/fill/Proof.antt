@@ -11,7 +11,7 @@ use Rattle.listing.specs.declared.Listing.{Listing}
 use Rattle.listing.specs.declared.Listed.{Listed}
 use Rattle.listing.specs.declared.Heard.TheVariants.{Packet as Took}
 use Rattle.sbrlist.specs.Run.{Counts, IsFilled}
-use Rattle.sbrlist.proofs.CallsGoOn.{wrote_fits, Going, begins, going_then, known_then, filled_then, filled, out-then}
+use Rattle.sbrlist.proofs.CallsGoOn.{wrote_fits, Going, begins, going_then, known_then, filled_then, filled, out_then}
 use Rattle.numbers.proofs.Alike.{zero_is_one}
 use Rattle.listing_whole.proofs.Demands.{gets_on}
 use borrow.Rule.Slice.PartMut.{same_len_mid}
@@ -73,10 +73,10 @@ module _ (c : tie.After-step invariant-loop decreases-loop) where
   going = (turn c).loop.invariant.4
 
   abbrev out_of : List ℕ
-  out_of = out-then l₀ input ended lent l used at out going after later stepped
+  out_of = out_then l₀ input ended lent l used at out going after later stepped
 
-  abbrev filledOf : Listed
-  filledOf = filled l₀ input ended lent l used at out going after later stepped
+  abbrev filled_of : Listed
+  filled_of = filled l₀ input ended lent l used at out going after later stepped
 
   known : (used + after.used ≤ length input) × Counts l₀.packets after.listing.packets (used + after.used)
   known = let k = known_then l₀ input ended lent l used at out going after later stepped (turn c).loop.invariant.0 (turn c).loop.invariant.3 in (k.0, k.1)
@@ -95,7 +95,7 @@ module _ (c : tie.After-step invariant-loop decreases-loop) where
       let g = (gets_on l (take (length input - used) (drop used input)) (take (length out - at) (drop at out)) later ended after stepped).1 e in
       (g.2, g.3)
 
-  ended_up : IsFilled l₀ input ended lent filledOf out_of
+  ended_up : IsFilled l₀ input ended lent filled_of out_of
   ended_up = filled_then l₀ input ended lent l used at out going after later stepped (turn c).loop.invariant.0 (turn c).loop.invariant.3
 
 -- the call that a place behind it stands behind

@@ -3,7 +3,7 @@ use mathlib.Core.Option.{none, some}
 use mathlib.Core.List.{List}
 use lib.ListN.{length-set}
 use Rattle.stream.specs.Event.{Event}
-use Rattle.stream.specs.Pieces.{Called, scan, scanFrom}
+use Rattle.stream.specs.Pieces.{Called, scan, scan_from}
 use Rattle.stream.proofs.LoopScans.{from_start, from_goes, from_tells, from_end}
 use Rattle.comlynx.specs.Wire.{Message, body_max}
 use Rattle.comlynx.specs.Rules.{lost_max}
@@ -23,7 +23,7 @@ use Rattle.comlynx.proofs.reader.run_in.Tie as tie
 abbrev invariant-loop : tie.invariant-loop
 invariant-loop stage came count held₀ piece stage₀ came₀ count₀ i₀ held stage' came' count' i =
     (i ≤ length piece) × Range stage' came' count' × (length held ≡ length held₀)
-    × (scanFrom next (record { held = held; stage = stage'; came = came'; count = count' }) piece i ≡ scan next (record { held = held₀; stage = stage; came = came; count = count }) piece)
+    × (scan_from next (record { held = held; stage = stage'; came = came'; count = count' }) piece i ≡ scan next (record { held = held₀; stage = stage; came = came; count = count }) piece)
 
 abbrev decreases-loop : tie.decreases-loop
 decreases-loop stage came count held₀ piece stage₀ came₀ count₀ i₀ held stage' came' count' i = length piece - i
@@ -69,7 +69,7 @@ unfolding next
 does c m e = ap (λ (x : Move). moved x (St c)) (sym c.advance.ensures ∙ e)
 
 again : (c : tie.After-advance invariant-loop decreases-loop) (m : Move) (t : Reader) → c.advance.result ≡ m → moved m (St c) ≡ record { state = t; event = none }
-    → scanFrom next t (P c) (I c + 1) ≡ Whole c
+    → scan_from next t (P c) (I c + 1) ≡ Whole c
 again c m t e f = sym (from_goes next (St c) t (P c) (I c) c.before.before.loop-test.true (does c m e ∙ f)) ∙ (at c).loop.invariant.3
 
 tells : (c : tie.After-advance invariant-loop decreases-loop) (m : Move) (x : Event Message) (t : Reader) → c.advance.result ≡ m → moved m (St c) ≡ record { state = t; event = some x }
@@ -193,7 +193,7 @@ loop-again-5 d =
       f.within,
       within (omega arith) (omega arith) (capped _ _ _ d.plus3.ensures) (omega (arith, f.room)),
       f.sized ∙ simp length-set l.inv.2,
-      ap (λ (r : ℕ). scanFrom next (inside r (l.count + 1 + taken) c.fill.new.1.0) (P k) c.fill.result) sent
+      ap (λ (r : ℕ). scan_from next (inside r (l.count + 1 + taken) c.fill.new.1.0) (P k) c.fill.result) sent
           ∙ sym (f.goes (more l.came 1) (more_most l.came 1))
           ∙ again k (Keep _) _ e refl,
     )

@@ -5,7 +5,7 @@ use mathlib.Core.Option.{none, some}
 use mathlib.Core.List.{List}
 use lib.ListN.{length-set}
 use Rattle.stream.specs.Event.{Event}
-use Rattle.stream.specs.Pieces.{Called, scan, scanFrom}
+use Rattle.stream.specs.Pieces.{Called, scan, scan_from}
 use Rattle.stream.proofs.LoopScans.{from_start, from_goes, from_tells, from_end}
 use Rattle.drives.specs.Wire.{Message}
 use Rattle.drives.specs.Machine.{held_max, holding, inside, on, moved, next}
@@ -24,7 +24,7 @@ use Rattle.drives.proofs.reader.run_in.Tie as tie
 abbrev invariant-loop : tie.invariant-loop
 invariant-loop stage count held₀ piece stage₀ count₀ i₀ held stage' count' i =
     (i ≤ length piece) × Range stage' count' × (length held ≡ length held₀)
-    × (scanFrom next (holding stage' count' held) piece i ≡ scan next (holding stage count held₀) piece)
+    × (scan_from next (holding stage' count' held) piece i ≡ scan next (holding stage count held₀) piece)
 
 abbrev decreases-loop : tie.decreases-loop
 decreases-loop stage count held₀ piece stage₀ count₀ i₀ held stage' count' i = length piece - i
@@ -65,7 +65,7 @@ unfolding next
 does c m e = ap (λ (x : Move). moved x (St c) (get_or (P c) (I c) 0)) (sym c.advance.ensures ∙ e)
 
 again : (c : tie.After-advance invariant-loop decreases-loop) (m : Move) (t : Reader) → c.advance.result ≡ m → moved m (St c) (get_or (P c) (I c) 0) ≡ record { state = t; event = none }
-    → scanFrom next t (P c) (I c + 1) ≡ Whole c
+    → scan_from next t (P c) (I c + 1) ≡ Whole c
 again c m t e f = sym (from_goes next (St c) t (P c) (I c) c.before.before.loop-test.true (does c m e ∙ f)) ∙ (at c).loop.invariant.3
 
 tells : (c : tie.After-advance invariant-loop decreases-loop) (m : Move) (x : Event Message) (t : Reader) → c.advance.result ≡ m → moved m (St c) (get_or (P c) (I c) 0) ≡ record { state = t; event = some x }

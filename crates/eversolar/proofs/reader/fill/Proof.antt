@@ -1,5 +1,5 @@
 use lib.ListN.{length-set, length, get_or, set}
-use Rattle.stream.specs.Pieces.{scanFrom}
+use Rattle.stream.specs.Pieces.{scan_from}
 use Rattle.stream.proofs.LoopScans.{from_goes}
 use Rattle.eversolar.specs.Machine.{holding, next}
 use Rattle.eversolar.proofs.MachineMoves.{keep_more}
@@ -13,7 +13,7 @@ use Rattle.eversolar.proofs.reader.fill.Tie as tie
 abbrev invariant-loop : tie.invariant-loop
 invariant-loop stage count len held₀ piece from stop at₀ i₀ held at i =
     (from ≤ i) × (i ≤ stop) × (at ≡ count + (i - from)) × (length held ≡ length held₀)
-    × (scanFrom next (holding stage count len held₀) piece from ≡ scanFrom next (holding stage at len held) piece i)
+    × (scan_from next (holding stage count len held₀) piece from ≡ scan_from next (holding stage at len held) piece i)
 
 abbrev decreases-loop : tie.decreases-loop
 decreases-loop stage count len held₀ piece from stop at₀ i₀ held at i = stop - i
@@ -74,7 +74,7 @@ returns c =
       within = omega arith;
       room = omega arith;
       sized = l.invariant.3;
-      goes = l.invariant.4 ∙ ap (λ (n : ℕ). scanFrom next (holding a.stage n a.len l.held) a.piece.now l.i) l.invariant.2;
+      goes = l.invariant.4 ∙ ap (λ (n : ℕ). scan_from next (holding a.stage n a.len l.held) a.piece.now l.i) l.invariant.2;
     }
 
 pub fill_spec : {M : Type 1} → statement M

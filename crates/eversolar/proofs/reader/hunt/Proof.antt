@@ -1,6 +1,6 @@
 use mathlib.Core.List.{List}
 use borrow.Author.Tests.{eq-eqb, ne_eqb}
-use Rattle.stream.specs.Pieces.{scanFrom}
+use Rattle.stream.specs.Pieces.{scan_from}
 use Rattle.stream.proofs.LoopScans.{from_goes}
 use Rattle.eversolar.specs.Machine.{holding, looked_of, next}
 use Rattle.eversolar.proofs.MachineMoves.{look_on}
@@ -15,7 +15,7 @@ use Rattle.eversolar.proofs.reader.hunt.Tie as tie
 abbrev invariant-loop : tie.invariant-loop
 invariant-loop stage piece from stage₀ i₀ stage' i =
     (from ≤ i) × (i ≤ length piece) × (stage' < 2)
-    × ((count len : ℕ) (held : List ℕ) → scanFrom next (holding stage count len held) piece from ≡ scanFrom next (holding stage' count len held) piece i)
+    × ((count len : ℕ) (held : List ℕ) → scan_from next (holding stage count len held) piece from ≡ scan_from next (holding stage' count len held) piece i)
 
 abbrev decreases-loop : tie.decreases-loop
 decreases-loop stage piece from stage₀ i₀ stage' i = length piece - i
@@ -32,7 +32,7 @@ St c = c.before.before.loop.stage
 
 -- the byte leads to stage t
 goes : (c : tie.After-shared-slice-known invariant-loop decreases-loop) (t : ℕ) → looked_of (St c) (get_or (P c) (I c) 0) ≡ t
-    → (count len : ℕ) (held : List ℕ) → scanFrom next (holding (St c) count len held) (P c) (I c) ≡ scanFrom next (holding t count len held) (P c) (I c + 1)
+    → (count len : ℕ) (held : List ℕ) → scan_from next (holding (St c) count len held) (P c) (I c) ≡ scan_from next (holding t count len held) (P c) (I c + 1)
 goes c t e count len held =
     from_goes next (holding (St c) count len held) (holding t count len held) (P c) (I c) c.before.if1.false (look_on (St c) t count len held (get_or (P c) (I c) 0) c.before.before.loop.invariant.2 e)
 
@@ -68,7 +68,7 @@ returns c =
     let k = c.before in
     let p = k.before.args.piece.now in
     let e : k.loop.i ≡ length p = omega arith in
-    (omega arith, λ count len held. k.loop.invariant.3 count len held ∙ ap (λ (j : ℕ). scanFrom next (holding k.loop.stage count len held) p j) e)
+    (omega arith, λ count len held. k.loop.invariant.3 count len held ∙ ap (λ (j : ℕ). scan_from next (holding k.loop.stage count len held) p j) e)
 
 returns-2 : tie.Need-returns-2 invariant-loop decreases-loop
 unfolding looked_of

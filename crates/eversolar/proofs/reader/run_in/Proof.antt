@@ -4,7 +4,7 @@ use mathlib.Core.List.{List}
 use lib.ListN.{length-set, length, get_or}
 use borrow.Author.Tests.{le-ltb}
 use Rattle.stream.specs.Event.{Event}
-use Rattle.stream.specs.Pieces.{Called, scan, scanFrom}
+use Rattle.stream.specs.Pieces.{Called, scan, scan_from}
 use Rattle.stream.proofs.LoopScans.{from_start, from_goes, from_tells, from_end}
 use Rattle.eversolar.specs.Wire.{Message}
 use Rattle.eversolar.specs.Machine.{holding, moved, next}
@@ -24,7 +24,7 @@ use Rattle.eversolar.proofs.reader.run_in.Tie as tie
 abbrev invariant-loop : tie.invariant-loop
 invariant-loop stage count len held₀ piece stage₀ count₀ len₀ i₀ held stage' count' len' i =
     (i ≤ length piece) × Range stage' count' len' × (length held ≡ length held₀)
-    × (scanFrom next (holding stage' count' len' held) piece i ≡ scan next (holding stage count len held₀) piece)
+    × (scan_from next (holding stage' count' len' held) piece i ≡ scan next (holding stage count len held₀) piece)
 
 abbrev decreases-loop : tie.decreases-loop
 decreases-loop stage count len held₀ piece stage₀ count₀ len₀ i₀ held stage' count' len' i = length piece - i
@@ -68,13 +68,13 @@ unfolding next
 does c m e = rw (le-ltb (at c).loop.stage 2 c.before.before.if1.false) (ap (λ (x : Move). moved x (St c) (get_or (P c) (I c) 0)) (sym c.advance.ensures ∙ e))
 
 again : (c : tie.After-advance invariant-loop decreases-loop) (m : Move) (t : Reader) → c.advance.result ≡ m → moved m (St c) (get_or (P c) (I c) 0) ≡ record { state = t; event = none }
-    → scanFrom next t (P c) (I c + 1) ≡ Whole c
+    → scan_from next t (P c) (I c + 1) ≡ Whole c
 again c m t e f = sym (from_goes next (St c) t (P c) (I c) c.before.before.before.loop-test.true (does c m e ∙ f)) ∙ (at c).loop.invariant.3
 
 -- a byte is kept, and a run of bytes behind it: the call goes on behind the run
 behind : (c : tie.After-advance invariant-loop decreases-loop) (t : Reader) (later : List ℕ) (n j : ℕ) → c.advance.result ≡ Keep → moved Keep (St c) (get_or (P c) (I c) 0) ≡ record { state = t; event = none }
-    → scanFrom next t (P c) (I c + 1) ≡ scanFrom next (holding (at c).loop.stage n (at c).loop.len later) (P c) j
-    → scanFrom next (holding (at c).loop.stage n (at c).loop.len later) (P c) j ≡ Whole c
+    → scan_from next t (P c) (I c + 1) ≡ scan_from next (holding (at c).loop.stage n (at c).loop.len later) (P c) j
+    → scan_from next (holding (at c).loop.stage n (at c).loop.len later) (P c) j ≡ Whole c
 behind c t later n j e f g = sym g ∙ again c Keep t e f
 
 tells : (c : tie.After-advance invariant-loop decreases-loop) (m : Move) (x : Event Message) (t : Reader) → c.advance.result ≡ m → moved m (St c) (get_or (P c) (I c) 0) ≡ record { state = t; event = some x }

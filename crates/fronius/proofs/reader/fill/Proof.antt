@@ -1,7 +1,7 @@
 -- `reader::fill`: each byte copied is one that the machine keeps, so the call goes on from there.
 -- Assumes nothing.
 use lib.ListN.{length-set}
-use Rattle.stream.specs.Pieces.{scanFrom}
+use Rattle.stream.specs.Pieces.{scan_from}
 use Rattle.stream.proofs.LoopScans.{from_goes}
 use Rattle.fronius.specs.Machine.{filling, next}
 use Rattle.fronius.proofs.MachineMoves.{fill_more}
@@ -16,7 +16,7 @@ use Rattle.fronius.proofs.reader.fill.Tie as tie
 abbrev invariant-loop : tie.invariant-loop
 invariant-loop count len held₀ piece from stop at₀ i₀ held at i =
     (from ≤ i) × (i ≤ stop) × (at ≡ count + (i - from)) × (length held ≡ length held₀)
-    × (scanFrom next (filling count len held₀) piece from ≡ scanFrom next (filling at len held) piece i)
+    × (scan_from next (filling count len held₀) piece from ≡ scan_from next (filling at len held) piece i)
 
 abbrev decreases-loop : tie.decreases-loop
 decreases-loop count len held₀ piece from stop at₀ i₀ held at i = stop - i
@@ -77,7 +77,7 @@ returns c =
       within = omega arith;
       room = omega arith;
       sized = l.invariant.3;
-      goes = l.invariant.4 ∙ ap (λ (n : ℕ). scanFrom next (filling n a.len l.held) a.piece.now l.i) l.invariant.2;
+      goes = l.invariant.4 ∙ ap (λ (n : ℕ). scan_from next (filling n a.len l.held) a.piece.now l.i) l.invariant.2;
     }
 
 pub fill_spec : {M : Type 1} → statement M

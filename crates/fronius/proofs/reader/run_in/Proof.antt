@@ -5,7 +5,7 @@ use mathlib.Core.Option.{none, some}
 use mathlib.Core.List.{List}
 use lib.ListN.{length-set}
 use Rattle.stream.specs.Event.{Event}
-use Rattle.stream.specs.Pieces.{Called, scan, scanFrom}
+use Rattle.stream.specs.Pieces.{Called, scan, scan_from}
 use Rattle.stream.proofs.LoopScans.{from_goes, from_tells, from_end}
 use Rattle.fronius.specs.Wire.{Message}
 use Rattle.fronius.specs.Machine.{holding, filling, moved, next}
@@ -24,7 +24,7 @@ use Rattle.fronius.proofs.reader.run_in.Tie as tie
 abbrev invariant-loop : tie.invariant-loop
 invariant-loop stage count len held₀ piece stage₀ count₀ len₀ i₀ held stage' count' len' i =
     (i ≤ length piece) × Range stage' count' len' × (length held ≡ length held₀)
-    × (scanFrom next (holding stage' count' len' held) piece i ≡ scanFrom next (holding stage₀ count₀ len₀ held₀) piece i₀)
+    × (scan_from next (holding stage' count' len' held) piece i ≡ scan_from next (holding stage₀ count₀ len₀ held₀) piece i₀)
 
 abbrev decreases-loop : tie.decreases-loop
 decreases-loop stage count len held₀ piece stage₀ count₀ len₀ i₀ held stage' count' len' i = length piece - i
@@ -55,14 +55,14 @@ I c = (at c).loop.i
 abbrev Left : tie.After-advance invariant-loop decreases-loop → Called Reader (Event Message)
 Left c =
     let e = (entered (at c)).enter in
-    scanFrom next (holding e.result.stage e.result.count e.result.len e.last.1.1.1.0) (P c) e.result.at
+    scan_from next (holding e.result.stage e.result.count e.result.len e.last.1.1.1.0) (P c) e.result.at
 
 sized : (k : tie.At-loop invariant-loop decreases-loop) → length k.loop.held ≡ length (begun (entered k)).args.held.now
 sized k = k.loop.invariant.2 ∙ (entered k).enter.ensures.sized
 
 goes_on : (k : tie.At-loop invariant-loop decreases-loop)
     → scan next (State (begun (entered k))) (begun (entered k)).args.piece.now
-    ≡ scanFrom next (holding k.loop.stage k.loop.count k.loop.len k.loop.held) (begun (entered k)).args.piece.now k.loop.i
+    ≡ scan_from next (holding k.loop.stage k.loop.count k.loop.len k.loop.held) (begun (entered k)).args.piece.now k.loop.i
 goes_on k = sym (entered k).enter.ensures.goes ∙ sym k.loop.invariant.3
 
 -- what the move says of the state, and what the byte does
@@ -77,18 +77,18 @@ unfolding next
 does c m e = ap (λ (x : Move). moved x (St c) (get_or (P c) (I c) 0)) (sym c.advance.ensures ∙ e)
 
 again : (c : tie.After-advance invariant-loop decreases-loop) (m : Move) (t : Reader) → c.advance.result ≡ m → moved m (St c) (get_or (P c) (I c) 0) ≡ record { state = t; event = none }
-    → scanFrom next t (P c) (I c + 1) ≡ Left c
+    → scan_from next t (P c) (I c + 1) ≡ Left c
 again c m t e f = sym (from_goes next (St c) t (P c) (I c) c.before.before.loop-test.true (does c m e ∙ f)) ∙ (at c).loop.invariant.3
 
 -- a byte is kept in the body, and a run of bytes behind it: the call goes on behind the run
 behind : (c : tie.After-advance invariant-loop decreases-loop) (held later : List ℕ) (first n j : ℕ) → c.advance.result ≡ Keep → (at c).loop.stage ≡ 1
     → moved Keep (St c) (get_or (P c) (I c) 0) ≡ record { state = holding (at c).loop.stage first (at c).loop.len held; event = none }
-    → scanFrom next (filling first (at c).loop.len held) (P c) (I c + 1) ≡ scanFrom next (filling n (at c).loop.len later) (P c) j
-    → scanFrom next (holding (at c).loop.stage n (at c).loop.len later) (P c) j ≡ Left c
+    → scan_from next (filling first (at c).loop.len held) (P c) (I c + 1) ≡ scan_from next (filling n (at c).loop.len later) (P c) j
+    → scan_from next (holding (at c).loop.stage n (at c).loop.len later) (P c) j ≡ Left c
 behind c held later first n j e s f g =
-    ap (λ (x : ℕ). scanFrom next (holding x n (at c).loop.len later) (P c) j) s
+    ap (λ (x : ℕ). scan_from next (holding x n (at c).loop.len later) (P c) j) s
     ∙ sym g
-    ∙ ap (λ (x : ℕ). scanFrom next (holding x first (at c).loop.len held) (P c) (I c + 1)) (sym s)
+    ∙ ap (λ (x : ℕ). scan_from next (holding x first (at c).loop.len held) (P c) (I c + 1)) (sym s)
     ∙ again c Keep _ e f
 
 tells : (c : tie.After-advance invariant-loop decreases-loop) (m : Move) (x : Event Message) (t : Reader) → c.advance.result ≡ m → moved m (St c) (get_or (P c) (I c) 0) ≡ record { state = t; event = some x }

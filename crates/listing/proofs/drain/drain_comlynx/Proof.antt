@@ -28,7 +28,7 @@ use Rattle.uplink.specs.Packet.{piece_max}
 use Rattle.listing.specs.Entries.{show_comlynx}
 use Rattle.listing.specs.Steps.{room_least}
 use Rattle.listing.proofs.LinesFit.{line_for, per_byte, held_most, Weighs, comlynx_weight, comlynx_weighs, comlynx_heavy}
-use Rattle.listing.proofs.DrainReadsPiece.{rest, rest_length, into, messageFor, damageFor, given, Went, went, spoils, Kept, begins, kept_length, line_used, line_uses, line_room, turns, ends, ends_spoilt}
+use Rattle.listing.proofs.DrainReadsPiece.{rest, rest_length, into, message_for, damage_for, given, Went, went, spoils, Kept, begins, kept_length, line_used, line_uses, line_room, turns, ends, ends_spoilt}
 use Rattle.listing.proofs.drain.drain_comlynx.Statement.{statement}
 use Rattle.listing.proofs.drain.drain_comlynx.Tie as tie
 
@@ -117,8 +117,8 @@ module _ (c : tie.After-step-in-place invariant-loop decreases-loop) where
   abbrev tells : Answer → Option (Event Message)
   tells a = given (retold (λ h. join h (later c)) (told a))
 
-  abbrev lineTold : Answer → List ℕ
-  lineTold a = line_for show_comlynx (portOf (turn c)) (tells a)
+  abbrev line_told : Answer → List ℕ
+  line_told a = line_for show_comlynx (portOf (turn c)) (tells a)
 
   module _ (a : Answer) (e : (result c).answer ≡ a) (fine : Fine (told a)) where
     goes : Went next in_range header (λ m. m.payload) shown join joins (reader (turn c)) (left_of (turn c)) (result c) (tells a)
@@ -135,18 +135,18 @@ module _ (c : tie.After-step-in-place invariant-loop decreases-loop) where
         c.before.before.before.before.loop-test.true
 
     -- there is room for its line
-    room : (turn c).loop.wrote + length (lineTold a) ≤ held_most + per_byte * piece_max
+    room : (turn c).loop.wrote + length (line_told a) ≤ held_most + per_byte * piece_max
     room =
         omega
         (arith, uses, short (turn c), line_room next in_range header (λ m. m.payload) shown join joins show_comlynx (portOf (turn c)) comlynx_weight (weighs (turn c)) (turn c).loop.invariant.0 goes)
 
-    part_room : length (lineTold a) ≤ length (take (length (turn c).loop.out - (turn c).loop.wrote) (drop (turn c).loop.wrote (turn c).loop.out))
+    part_room : length (line_told a) ≤ length (take (length (turn c).loop.out - (turn c).loop.wrote) (drop (turn c).loop.wrote (turn c).loop.out))
     part_room = omega (arith, room, wide (turn c), rest_length (turn c).loop.out (turn c).loop.wrote)
 
-    keeps : (wrote messages damages : ℕ) (out : List ℕ) → wrote ≡ (turn c).loop.wrote + length (lineTold a)
-        → messages ≡ (turn c).loop.messages + messageFor show_comlynx (portOf (turn c)) (tells a)
-        → damages ≡ (turn c).loop.damages + damageFor show_comlynx (portOf (turn c)) (tells a)
-        → out ≡ sets (turn c).loop.out (turn c).loop.wrote (lineTold a)
+    keeps : (wrote messages damages : ℕ) (out : List ℕ) → wrote ≡ (turn c).loop.wrote + length (line_told a)
+        → messages ≡ (turn c).loop.messages + message_for show_comlynx (portOf (turn c)) (tells a)
+        → damages ≡ (turn c).loop.damages + damage_for show_comlynx (portOf (turn c)) (tells a)
+        → out ≡ sets (turn c).loop.out (turn c).loop.wrote (line_told a)
         → Keeps (portOf (turn c)) (turn c).before.before.before.before.args.reader (entry_line (turn c)) (out_of (turn c)) (result c).reader
         ((turn c).loop.at + (result c).used) wrote messages damages out
         × (length (later c) ≡ lent_least) × ((turn c).loop.spoilt ≡ false) × (length (heldLater c) ≡ body_max)
@@ -265,7 +265,7 @@ loop-again-2 c =
     let a = Read g.0.0 in
     let put = c.before.before.comlynx-line in
     keeps k a g.1 tt _ _ _ _ (ap (λ (n : ℕ). l.wrote + n) put.ensures.0) refl (sym (add-zero l.damages))
-    (into l.out put.new.1.1.1.0 (lineTold k a) l.wrote (omega (arith, room k a g.1 tt, wide (turn k))) put.ensures.1)
+    (into l.out put.new.1.1.1.0 (line_told k a) l.wrote (omega (arith, room k a g.1 tt, wide (turn k))) put.ensures.1)
 
 enum-known-answer-2 : tie.Need-enum-known-answer-2 invariant-loop decreases-loop
 enum-known-answer-2 c = search rules
@@ -314,7 +314,7 @@ loop-again-3 c =
     let a = Damaged g.0.0 g.0.1.0 in
     let put = c.before.before.damage-line in
     keeps k a g.1 tt _ _ _ _ (ap (λ (n : ℕ). l.wrote + n) put.ensures.0) (sym (add-zero l.messages)) refl
-    (into l.out put.new.1.1.1.0 (lineTold k a) l.wrote (omega (arith, room k a g.1 tt, wide (turn k))) put.ensures.1)
+    (into l.out put.new.1.1.1.0 (line_told k a) l.wrote (omega (arith, room k a g.1 tt, wide (turn k))) put.ensures.1)
 
 enum-told-2 : tie.Need-enum-told-2 invariant-loop decreases-loop
 enum-told-2 c = search rules

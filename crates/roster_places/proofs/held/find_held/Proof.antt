@@ -92,10 +92,10 @@ module _ {M : Type 1} {𝓤 : Ura M} (𝓛 : Logic 𝓤) (mem : Memory → SProp
 
   -- ---- `find`, at the lifetime ν of the call, over the array at l
   module _ (l ν : ℕ) (δ : GName) where
-    abbrev to-find : (Find 𝓛 mem run).Ghost
-    to-find = (((ν ∷ [], (κ, tt)), (full_share, (q, tt)), tt, (ref l δ ys, (sref, tt)), (slice l ∷ [], (sslice ∷ [], tt))), tt)
+    abbrev to_find : (Find 𝓛 mem run).Ghost
+    to_find = (((ν ∷ [], (κ, tt)), (full_share, (q, tt)), tt, (ref l δ ys, (sref, tt)), (slice l ∷ [], (sslice ∷ [], tt))), tt)
 
-    asks_find : ent 𝓤 (⋆ 𝓛 (‵ (flft (ν ∷ []) full_share) ∷ ‵ (flft κ q) ∷ ‵ (Shr l ν δ ys) ∷ ‵ S ∷ [])) ((Find 𝓛 mem run).pre to-find)
+    asks_find : ent 𝓤 (⋆ 𝓛 (‵ (flft (ν ∷ []) full_share) ∷ ‵ (flft κ q) ∷ ‵ (Shr l ν δ ys) ∷ ‵ S ∷ [])) ((Find 𝓛 mem run).pre to_find)
     asks_find =
         qed 𝓛 (‵ (flft (ν ∷ []) full_share) ∷ ‵ (flft κ q) ∷ ‵ (Shr l ν δ ys) ∷ ‵ S ∷ []) ∵ nothing ! $ move ! (2 ∷ 0 ∷ []) $ join ! $ move ! (1 ∷ 0 ∷ []) $ join ! $
         nothing ! $ move ! (3 ∷ 0 ∷ []) $ fjoin ! $ move ! (2 ∷ 0 ∷ []) $ fjoin ! $ move ! (1 ∷ 0 ∷ []) $ join ! $ frame ! $ done !
@@ -120,9 +120,9 @@ module _ {M : Type 1} {𝓤 : Ura M} (𝓛 : Logic 𝓤) (mem : Memory → SProp
         -- the array is lent as a `&`, for a lifetime ν of the call
         move ! (6 ∷ []) $ use1 𝓛 (LentShared 𝓛 l₃ ys) (lend_shared 𝓛 l₃ ys v gy) $ await ! tt $ pick ! (λ ν. pick ! (λ δ. split ! $ move ! (1 ∷ []) $ split ! $
         move ! (4 ∷ []) $ use1 𝓛 (‵ S ⊛ ‵ S) ((shr_slice_copy 𝓛 (named 0) κ u8).twice sref (sslice ∷ [])) $ split ! $
-        move ! (4 ∷ 5 ∷ 2 ∷ 0 ∷ []) $ group ! 4 $ use1 𝓛 (raw ((Find 𝓛 mem run).pre (to-find l₃ ν δ))) (asks_find l₃ ν δ) $
+        move ! (4 ∷ 5 ∷ 2 ∷ 0 ∷ []) $ group ! 4 $ use1 𝓛 (raw ((Find 𝓛 mem run).pre (to_find l₃ ν δ))) (asks_find l₃ ν δ) $
         -- [what `find` asks; serial; the lender's part; _5; …; _4; …; …; _2; …; _1; …; room for _0; …]
-        calls_at ! fm (Find 𝓛 mem run) known (to-find l₃ ν δ) (and_then ! (load ! (from ! (stop !)) (look ! 3 refl)) (and_then ! (load ! (from ! (stop !)) (look ! 8 refl)) (no_more !))) (λ w.
+        calls_at ! fm (Find 𝓛 mem run) known (to_find l₃ ν δ) (and_then ! (load ! (from ! (stop !)) (look ! 3 refl)) (and_then ! (load ! (from ! (stop !)) (look ! 8 refl)) (no_more !))) (λ w.
         use1 𝓛 (later (some (λ (r : Found). ((‵ (flft (ν ∷ []) full_share) ⊛ ‵ (flft κ q) ⊛ ‵ ftrue) ⊛ ‵ (AN.own_val r (w ∷ []))) ⊛ raw (Said l₃ ν δ r)))) (id⊢ 𝓤 _) $ await ! tt $ pick ! (λ r.
         split ! $ move ! (1 ∷ []) $ use1 𝓛 (raw (fact 𝓤 (IsFound ys ss r))) (said_find l₃ ν δ r) $ heard ! (IsFound ys ss r) (λ e.
         split ! $ move ! (1 ∷ []) $ peeks ! AN (Is AN) (shows 𝓛 AN) r (w ∷ []) (λ gr.

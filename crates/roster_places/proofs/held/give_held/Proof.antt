@@ -103,10 +103,10 @@ module _ {M : Type 1} {𝓤 : Ura M} (𝓛 : Logic 𝓤) (mem : Memory → SProp
 
   -- ---- `give`, at the lifetime ν of the call, over the array at l
   module _ (l ν : ℕ) (δ : GName) where
-    abbrev to-give : (Give 𝓛 mem run).Ghost
-    to-give = (((ν ∷ [], (κ, tt)), (full_share, (q, tt)), tt, (ref l δ ys, (sref, tt)), (slice l ∷ [], (sslice ∷ [], tt))), tt)
+    abbrev to_give : (Give 𝓛 mem run).Ghost
+    to_give = (((ν ∷ [], (κ, tt)), (full_share, (q, tt)), tt, (ref l δ ys, (sref, tt)), (slice l ∷ [], (sslice ∷ [], tt))), tt)
 
-    asks_give : ent 𝓤 (⋆ 𝓛 (‵ (flft (ν ∷ []) full_share) ∷ ‵ (flft κ q) ∷ ‵ (Mut l ν δ ys) ∷ ‵ S ∷ [])) ((Give 𝓛 mem run).pre to-give)
+    asks_give : ent 𝓤 (⋆ 𝓛 (‵ (flft (ν ∷ []) full_share) ∷ ‵ (flft κ q) ∷ ‵ (Mut l ν δ ys) ∷ ‵ S ∷ [])) ((Give 𝓛 mem run).pre to_give)
     asks_give =
         qed 𝓛 (‵ (flft (ν ∷ []) full_share) ∷ ‵ (flft κ q) ∷ ‵ (Mut l ν δ ys) ∷ ‵ S ∷ []) ∵ nothing ! $ move ! (2 ∷ 0 ∷ []) $ join ! $ move ! (1 ∷ 0 ∷ []) $ join ! $
         nothing ! $ move ! (3 ∷ 0 ∷ []) $ fjoin ! $ move ! (2 ∷ 0 ∷ []) $ fjoin ! $ move ! (1 ∷ 0 ∷ []) $ join ! $ frame ! $ done !
@@ -131,9 +131,9 @@ module _ {M : Type 1} {𝓤 : Ura M} (𝓛 : Logic 𝓤) (mem : Memory → SProp
         -- the array is lent as a `&mut`, for a lifetime ν of the call
         move ! (10 ∷ []) $ use1 𝓛 (LentMut 𝓛 l₃ ys) (lend_mut 𝓛 l₃ ys v gy) $ await ! tt $ pick ! (λ ν. pick ! (λ δ. split ! $ move ! (1 ∷ []) $ split ! $
         move ! (4 ∷ []) $ use1 𝓛 (‵ S ⊛ ‵ S) ((shr_slice_copy 𝓛 (named 0) κ u8).twice sref (sslice ∷ [])) $ split ! $
-        move ! (4 ∷ 5 ∷ 2 ∷ 0 ∷ []) $ group ! 4 $ use1 𝓛 (raw ((Give 𝓛 mem run).pre (to-give l₃ ν δ))) (asks_give l₃ ν δ) $
+        move ! (4 ∷ 5 ∷ 2 ∷ 0 ∷ []) $ group ! 4 $ use1 𝓛 (raw ((Give 𝓛 mem run).pre (to_give l₃ ν δ))) (asks_give l₃ ν δ) $
         -- [what `give` asks; serial; the lender's part; _7; …; _6; …; _5; …; _4; …; …; _2; …; _1; …; room for _0; …]
-        calls_at ! fm (Give 𝓛 mem run) known (to-give l₃ ν δ) (and_then ! (load ! (from ! (stop !)) (look ! 5 refl)) (and_then ! (load ! (from ! (stop !)) (look ! 12 refl)) (no_more !))) (λ w.
+        calls_at ! fm (Give 𝓛 mem run) known (to_give l₃ ν δ) (and_then ! (load ! (from ! (stop !)) (look ! 5 refl)) (and_then ! (load ! (from ! (stop !)) (look ! 12 refl)) (no_more !))) (λ w.
         use1 𝓛 (later (some (λ (r : Answer). ((‵ (flft (ν ∷ []) full_share) ⊛ ‵ (flft κ q) ⊛ ‵ ftrue) ⊛ ‵ (AN.own_val r (w ∷ []))) ⊛ raw (Said l₃ ν δ r)))) (id⊢ 𝓤 _) $ await ! tt $ pick ! (λ r.
         split ! $ move ! (1 ∷ []) $ use1 𝓛 (some (λ (zs : List Place × (Unit {0} × Unit {0})). ‵ (Last l₃ ν δ zs) ⊛ raw (fact 𝓤 (IsGiven ys ss r zs.0)))) (id⊢ 𝓤 _) $ pick ! (λ zs.
         split ! $ move ! (1 ∷ []) $ heard ! (IsGiven ys ss r zs.0) (λ e. fsplit ! $ fsplit ! $ move ! (2 ∷ 3 ∷ []) $ drop ! $

@@ -90,10 +90,10 @@ module _ {M : Type 1} {𝓤 : Ura M} (𝓛 : Logic 𝓤) (mem : Memory → SProp
 
   -- ---- `remove`, at the lifetime ν of the call, over the array at l
   module _ (l ν : ℕ) (δ : GName) where
-    abbrev to-remove : (Remove 𝓛 mem run).Ghost
-    to-remove = (((ν ∷ [], tt), (full_share, tt), tt, (ref l δ ys, (address, tt)), (slice l ∷ [], (vint w8 address ∷ [], tt))), tt)
+    abbrev to_remove : (Remove 𝓛 mem run).Ghost
+    to_remove = (((ν ∷ [], tt), (full_share, tt), tt, (ref l δ ys, (address, tt)), (slice l ∷ [], (vint w8 address ∷ [], tt))), tt)
 
-    asks_remove : ent 𝓤 (⋆ 𝓛 (‵ (flft (ν ∷ []) full_share) ∷ ‵ (Mut l ν δ ys) ∷ [])) ((Remove 𝓛 mem run).pre to-remove)
+    asks_remove : ent 𝓤 (⋆ 𝓛 (‵ (flft (ν ∷ []) full_share) ∷ ‵ (Mut l ν δ ys) ∷ [])) ((Remove 𝓛 mem run).pre to_remove)
     asks_remove =
         qed 𝓛 (‵ (flft (ν ∷ []) full_share) ∷ ‵ (Mut l ν δ ys) ∷ []) ∵ nothing ! $ move ! (1 ∷ 0 ∷ []) $ join ! $
         nothing ! $ owned ! u8 (Is u8) (uint_Makes 𝓛 w8) address _ (refl, fits) $ fjoin ! $ move ! (2 ∷ 0 ∷ []) $ fjoin ! $ move ! (1 ∷ 0 ∷ []) $ join ! $ frame ! $ done !
@@ -116,9 +116,9 @@ module _ {M : Type 1} {𝓤 : Ura M} (𝓛 : Logic 𝓤) (mem : Memory → SProp
         assigns ! (agg ! (and_then ! (load ! (from ! (stop !)) (look ! 4 refl)) (and_then ! (lit ! tt) (no_more !)))) (from ! (stop !)) (init ! 2 refl (tt, (tt, (record { fits = room.0 }, tt)))) $
         -- the array is lent as a `&mut`, for a lifetime ν of the call
         move ! (8 ∷ []) $ use1 𝓛 (LentMut 𝓛 l₃ ys) (lend_mut 𝓛 l₃ ys v gy) $ await ! tt $ pick ! (λ ν. pick ! (λ δ. split ! $ move ! (1 ∷ []) $ split ! $
-        move ! (2 ∷ 0 ∷ []) $ use2 𝓛 (raw ((Remove 𝓛 mem run).pre (to-remove l₃ ν δ))) (asks_remove l₃ ν δ) $
+        move ! (2 ∷ 0 ∷ []) $ use2 𝓛 (raw ((Remove 𝓛 mem run).pre (to_remove l₃ ν δ))) (asks_remove l₃ ν δ) $
         -- [what `remove` asks; the lender's part; _7; …; _6; …; _5; …; _4; …; …; _2; …; _1; …; room for _0; …]
-        calls_at ! fm (Remove 𝓛 mem run) known (to-remove l₃ ν δ) (and_then ! (load ! (from ! (stop !)) (look ! 4 refl)) (and_then ! (load ! (from ! (stop !)) (look ! 11 refl)) (no_more !))) (λ w.
+        calls_at ! fm (Remove 𝓛 mem run) known (to_remove l₃ ν δ) (and_then ! (load ! (from ! (stop !)) (look ! 4 refl)) (and_then ! (load ! (from ! (stop !)) (look ! 11 refl)) (no_more !))) (λ w.
         use1 𝓛 (later (some (λ (r : Removed). ((‵ (flft (ν ∷ []) full_share) ⊛ ‵ ftrue) ⊛ ‵ (AN.own_val r (w ∷ []))) ⊛ raw (Said l₃ ν δ r)))) (id⊢ 𝓤 _) $ await ! tt $ pick ! (λ r.
         split ! $ move ! (1 ∷ []) $ use1 𝓛 (some (λ (zs : List Place × (Unit {0} × Unit {0})). ‵ (Last l₃ ν δ zs) ⊛ raw (fact 𝓤 (IsRemoved ys address r zs.0)))) (id⊢ 𝓤 _) $ pick ! (λ zs.
         split ! $ move ! (1 ∷ []) $ heard ! (IsRemoved ys address r zs.0) (λ e. fsplit ! $ fsplit ! $ move ! (2 ∷ 3 ∷ []) $ drop ! $
