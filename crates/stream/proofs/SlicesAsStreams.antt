@@ -229,11 +229,11 @@ module _ (F : Family) (facts : Facts F) (G : SliceReader F) (own : SliceFacts F 
   asks_in slice lent later place r h i room st = own.asks slice lent later place r st ∙ asked_in F.rule G.known_at slice lent place h i room
 
   -- asked on and on: what the rule reads from there
-  asks_read : {place : ℕ} {ps : List (Settled (Told M))} (slice : List ℕ) → length slice ≤ slice_most → T (are_bytes slice) → place ≤ length slice → AskedFrom F G slice place ps → Reads slice place ps
-  asks_read {place} slice h g i (ends lent later r room st d) =
+  asks_read : (slice : List ℕ) {place : ℕ} {ps : List (Settled (Told M))} → length slice ≤ slice_most → T (are_bytes slice) → place ≤ length slice → AskedFrom F G slice place ps → Reads slice place ps
+  asks_read slice {place} h g i (ends lent later r room st d) =
       let seen = asks_in slice lent later place r h i room st in
       told_off slice place (told_none place (length slice) (F.rule (G.known_at slice place) (drop place slice)) (sym (ap (λ (a : Asked M). a.told) seen) ∙ d))
-  asks_read {place} slice h g i (tells {told = qs} lent later r e room st d more) =
+  asks_read slice {place} h g i (tells {told = qs} lent later r e room st d more) =
       let seen = asks_in slice lent later place r h i room st in
       let hit = told_some place (length slice) (F.rule (G.known_at slice place) (drop place slice)) e (sym (ap (λ (a : Asked M). a.told) seen) ∙ d) in
       let at : (G.seen r later).place ≡ place + hit.0.used = ap (λ (a : Asked M). a.place) seen ∙ hit.3 in
