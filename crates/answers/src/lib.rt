@@ -1,4 +1,6 @@
 // The answer numbers of document 01 as types: what a call refuses, what a reader finds damaged, what a writer wrote.
+#![tactic(auto)]
+
 ghost use Rattle.answers.specs.Refusal.{IsRefusalNumber};
 ghost use Rattle.answers.specs.Damage.{IsDamageNumber};
 ghost use Rattle.answers.specs.Written.{IsLength, IsWrittenNumber};

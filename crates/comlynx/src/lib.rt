@@ -1,4 +1,6 @@
 // ComLynx: reader, reader of slices, and writer.
+#![tactic(auto)]
+
 pub mod reader;
 mod search;
 pub mod slice;

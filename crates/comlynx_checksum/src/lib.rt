@@ -1,4 +1,6 @@
 // The checksum of ComLynx, CRC-16/X-25, of slices of bytes.
+#![tactic(auto)]
+
 ghost use Rattle.std.specs.Prelude.{◌≡◌};
 ghost use Rattle.comlynx_checksum.specs.Checksum.{checksum_next, IsOf, IsOfBoth, IsOfFirst, IsMore, IsSentOf};
 ghost use Rattle.comlynx_checksum.specs.Table.{checksum_table};

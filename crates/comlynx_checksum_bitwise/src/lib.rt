@@ -1,4 +1,6 @@
 // The checksum of ComLynx bit by bit, for the board that has no room for a table. Its calls promise what those of `comlynx_checksum` promise, word for word.
+#![tactic(auto)]
+
 ghost use Rattle.std.specs.Prelude.{◌≡◌};
 ghost use Rattle.comlynx_checksum.specs.Checksum.{bit_step, bit_steps, checksum_next, IsOf, IsOfBoth, IsOfFirst, IsMore};
 

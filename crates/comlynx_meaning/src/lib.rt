@@ -1,4 +1,6 @@
 // What a type byte means with the data beside it, and the parts of an address.
+#![tactic(auto)]
+
 ghost use Rattle.std.specs.Prelude.{◌+◌, ◌*◌, ◌≤◌, ◌≡◌, cond, ◌&&◌, leb};
 ghost use Rattle.comlynx_meaning.specs.Meaning.{told, transmission_error, application_error, coded, IsMeaning, IsAddress, IsWord};
 

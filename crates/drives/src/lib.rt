@@ -1,4 +1,6 @@
 // Pump drives: reader, reader of slices and writer.
+#![tactic(auto)]
+
 pub mod reader;
 pub mod slice;
 pub mod writer;

@@ -1,4 +1,6 @@
 // What a message to or from a drive asks for.
+#![tactic(auto)]
+
 ghost use Rattle.std.specs.Prelude.{◌≡◌, ◌&&◌};
 ghost use Rattle.drives.specs.Wire.{opens, is_hex};
 ghost use Rattle.drives_meaning.specs.Replies.{every_drive, IsReplyExpected};

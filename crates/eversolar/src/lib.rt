@@ -1,4 +1,6 @@
 // Eversolar: streaming reader, reader of slices and writer.
+#![tactic(auto)]
+
 pub mod reader;
 pub mod slice;
 pub mod writer;

@@ -1,4 +1,6 @@
 // Eversolar: the total energy of a reply, and the waits after a register conflict.
+#![tactic(auto)]
+
 pub mod energy;
 pub mod waits;
 

@@ -1,4 +1,6 @@
 // The nine requests of the master. No control and no function can be chosen freely.
+#![tactic(auto)]
+
 ghost use Rattle.std.specs.Prelude.{◌≡◌};
 ghost use Rattle.eversolar.specs.Writer.{WritesMessage};
 ghost use Rattle.numbers.specs.Addresses.{is_address};

@@ -1,4 +1,6 @@
 // Eversolar's words, which are two bytes on the wire: no other place knows their order. An address is no word, but two bytes as sent.
+#![tactic(auto)]
+
 ghost use Rattle.eversolar_words.specs.Words.{IsWord, IsBytesOf};
 
 // The two bytes of a word, as they go on the wire.

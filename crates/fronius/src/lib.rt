@@ -1,4 +1,6 @@
 // Fronius, the protocol of the interface card: streaming reader, writer and reader of slices.
+#![tactic(auto)]
+
 pub mod reader;
 pub mod slice;
 pub mod writer;

@@ -1,4 +1,6 @@
 // The listing of an input of packets, one packet a call. Nothing is read or written here: the input is handed in as it comes, the text goes to the front of a lent buffer.
+#![tactic(auto)]
+
 mod drain;
 mod shown;
 

@@ -1,4 +1,6 @@
 // The text of each line of a listing, written at the front of a lent buffer.
+#![tactic(auto)]
+
 ghost use Rattle.listing_text.specs.Lines.{decimal, field_max, shown, IsTitle, IsMessage, IsDamage, IsStop, IsEnd};
 ghost use Rattle.listing_text.specs.Inside.{width_max, line_length, refused_for, start, before_code, Put};
 ghost use Rattle.std.specs.Prelude.{◌+◌, ◌*◌, ◌≤◌, ◌≡◌, ◌||◌, [], ◌∷◌, ltb, length};

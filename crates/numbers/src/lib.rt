@@ -1,4 +1,6 @@
 // Numbers as more than one crate needs them: the smaller of two, and bytes read as larger numbers.
+#![tactic(auto)]
+
 ghost use Rattle.numbers.specs.Numbers.{IsLeast, IsWord, IsWide};
 
 // The smaller of two numbers.

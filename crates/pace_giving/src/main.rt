@@ -1,5 +1,7 @@
 // Gives an address by a roster, for the bench. The first byte of standard input says how often, the next 16 are the serial, the rest is the
 // roster. Prints the sum of what the calls told, and writes the roster as it is then.
+#![tactic(auto)]
+
 use libc::{STDIN_FILENO, STDOUT_FILENO};
 use roster::Given;
 

@@ -1,5 +1,7 @@
 // Paces the readers for the bench as `pace_reading` does, for a host that keeps the held bytes where they are and lends them to each call
 // (`step_in_place`). It is a program of its own: with two callers in one the compiler would not put the step where it is called.
+#![tactic(auto)]
+
 ghost use Rattle.std.specs.Prelude.{◌≤◌, length};
 
 use libc::{STDIN_FILENO, STDOUT_FILENO};

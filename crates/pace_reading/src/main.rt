@@ -1,6 +1,8 @@
 // Paces the readers for the bench. The first byte of standard input names a family, the next two say how long a piece is, high byte first, 0 meaning
 // 65,536; the rest is handed to the family's reader in pieces. Prints the family, the messages, the damages, the bytes lost with them, and a check
 // number over the messages.
+#![tactic(auto)]
+
 ghost use Rattle.std.specs.Prelude.{◌≤◌, length};
 
 use libc::{STDIN_FILENO, STDOUT_FILENO};

@@ -1,5 +1,7 @@
 // Paces the readers of slices for the bench: the whole input is one slice, asked from 0 and then from each place given. It takes what `pace_reading`
 // takes, and prints the line that it prints.
+#![tactic(auto)]
+
 ghost use Rattle.std.specs.Prelude.{◌≤◌, length};
 
 use libc::{STDIN_FILENO, STDOUT_FILENO};

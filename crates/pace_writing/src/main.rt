@@ -1,6 +1,8 @@
 // Paces the writers and the checksum for the bench. The first byte of standard input names a family, or one of the two checksums; the next two say how often, the
 // next two how much room is lent, high byte first; the next which byte of it is looked at after each call; the rest is the data. Prints the sum of
 // what the calls told and the bytes looked at, and writes the lent buffer.
+#![tactic(auto)]
+
 use answers::Written;
 use libc::{STDIN_FILENO, STDOUT_FILENO};
 use numbers::{least, wide};

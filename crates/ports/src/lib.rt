@@ -6,6 +6,8 @@
 //
 // `Ports::step` goes by each reader's `step`. With `step_in_place` it would copy the held bytes itself: the prover does not cover that an array is
 // lent as a slice from inside a struct.
+#![tactic(auto)]
+
 ghost use Rattle.std.specs.Prelude.{◌≡◌};
 ghost use Rattle.ports.specs.Ports.{comlynx_answer, eversolar_answer, fronius_answer, drives_answer, IsFresh, IsStep};
 

@@ -1,4 +1,6 @@
 // The roster of addresses, over lent bytes: which inverter, known by its serial, has which address.
+#![tactic(auto)]
+
 ghost use Rattle.std.specs.Prelude.{◌+◌, ◌*◌, ◌≤◌, ◌<◌, ◌≡◌, not, length, drop};
 ghost use Rattle.numbers.specs.Lists.{same};
 ghost use Rattle.roster.specs.Roster.{places, serial_size, used_by, free, first, spoilt, none_at};

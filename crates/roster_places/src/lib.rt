@@ -1,5 +1,7 @@
 // The roster of addresses, over a lent slice of 254 structs. A function over the slice only takes it apart and puts it together:
 // what is to be done is decided over its bytes, by `roster`. `held` is the same over places by value.
+#![tactic(auto)]
+
 pub mod held;
 
 ghost use Rattle.std.specs.Prelude.{◌≡◌, ◌+◌, ◌≤◌, ◌<◌, length, get_or, set, take, drop};

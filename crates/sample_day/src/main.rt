@@ -1,6 +1,8 @@
 // Writes a day of packets from four ports to standard output, as a board sends them from the first light to the last. Standard input is what
 // was said, a record for each message: `sample/day.txt` as bytes. Every message is made by the writer of its family and every packet by the
 // packet writer; then some bytes are changed, as a bad line changes them, so that each damage number comes up.
+#![tactic(auto)]
+
 use libc::{STDIN_FILENO, STDOUT_FILENO};
 use line::fill;
 use test_parts::{COMLYNX, DRIVES, EVERSOLAR, FRONIUS, further, part};

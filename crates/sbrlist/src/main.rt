@@ -1,4 +1,6 @@
 // Lists the messages and damages of uplink packets: standard input to standard output. It reads, calls and writes; what is listed is decided in `listing`.
+#![tactic(auto)]
+
 ghost use Rattle.std.specs.Prelude.{◌+◌, ◌-◌, ◌≤◌, ◌<◌, ◌≡◌, true, length, take};
 ghost use Rattle.listing.specs.Steps.{room_least};
 ghost use Rattle.sbrlist.specs.Run.{moved_front, IsReadOn, IsStarted, IsFilled, Handed, Printed};

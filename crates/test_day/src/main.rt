@@ -3,6 +3,8 @@
 // day. Whatever the way, the lines are the same: one for each message and each damage (`lines`). Of another family, and of no input, nothing is printed.
 //
 // Every function that is called from elsewhere takes any number and any slice, so that no caller owes a proof.
+#![tactic(auto)]
+
 mod families;
 mod lines;
 mod of_comlynx;

@@ -1,5 +1,7 @@
 // What the programs for tests, sample and bench share. Every call takes any index: a byte past the end is 0, and of a part there is what
 // there is, so that no program owes a proof for it.
+#![tactic(auto)]
+
 ghost use Rattle.test_parts.specs.Parts.{IsFurther, IsByteAt, IsWordAt, IsPart, IsLowOf, IsHighOf};
 
 use numbers::{wide, word};

@@ -1,6 +1,8 @@
 // Makes the public calls of the package that are neither a reader's nor the listing's: writers, meanings, requests, words, rosters, packets and
 // checksums. It reads calls from standard input, makes each, and writes its result to standard output, until the input ends or a call is not whole or not
 // among these. The tests outside drive it; tests/PROBE.md has the protocol.
+#![tactic(auto)]
+
 mod calls;
 mod heads;
 mod rosters;

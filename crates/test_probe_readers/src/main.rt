@@ -1,6 +1,8 @@
 // Makes the public calls of the readers of one family: by value and in place, and the fresh states. It reads calls from standard input, makes each, and
 // writes its result to standard output, until the input ends or a call is not whole or not among these. The tests outside drive it; tests/PROBE.md has the
 // protocol.
+#![tactic(auto)]
+
 mod calls;
 mod heads;
 mod in_place;

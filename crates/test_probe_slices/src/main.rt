@@ -1,6 +1,8 @@
 // Makes the public calls on one whole slice: asks from a place of it, and one whole stretch judged. It reads calls from standard input, makes each, and
 // writes its result to standard output, until the input ends or a call is not whole or not among these. The tests outside drive it; tests/PROBE.md
 // has the protocol.
+#![tactic(auto)]
+
 mod answers_told;
 mod asks;
 mod calls;

@@ -1,5 +1,7 @@
 // Runs the published examples through reader and writer. Standard input is records, each a printed frame and what its document says that it is
 // (tests/published-frames makes them). Prints a line for each: document, the frame's number there, the answer, what was read, the verdict.
+#![tactic(auto)]
+
 mod families;
 
 use families::{MESSAGE, READ, read, write};

@@ -1,4 +1,6 @@
 // The uplink packet: the mark `SBR`, the version, the port, the count, and the piece: that many bytes of the port's line.
+#![tactic(auto)]
+
 ghost use Rattle.std.specs.Prelude.{◌≡◌, ◌+◌, ◌*◌, ◌≤◌, length};
 ghost use Rattle.std.proofs.lemmas.List.Edits.{sets};
 ghost use Rattle.uplink.specs.Packet.{version_of, known, counted, lead_length, lead, marked, IsRead, IsWritten};
