@@ -13,7 +13,7 @@ use native.Mathlib.Omega.{arith}
 use Rattle.numbers.proofs.Alike.{zero_is_one}
 use Rattle.answers.specs.Answer.{Answer, answer}
 use Rattle.answers.specs.Refusal as Refusal
-use Rattle.answers.specs.Written.{told, length_of, writing, Writes}
+use Rattle.answers.specs.Written.{length_of, writing, Writes}
 use Rattle.answers.specs.declared.Refusal.TheVariants.{TooLong, NoRoom}
 use Rattle.answers.specs.declared.Written.{Written}
 use Rattle.answers.specs.declared.Written.TheVariants.{Done, Refused}

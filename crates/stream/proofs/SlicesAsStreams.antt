@@ -12,12 +12,12 @@ use lib.Pow.{are_bytes}
 use borrow.Author.Tests.{le-ltb, lt-ltb}
 use native.Mathlib.Omega.{arith}
 use Rattle.numbers.proofs.Alike.{zero_is_one}
-use Rattle.stream.specs.Event.{Event, message, damage, Told, done, gives, refuses, number, outcome}
-use Rattle.stream.specs.Pieces.{Moved, Called, scan}
+use Rattle.stream.specs.Event.{Event, message, Told, done, gives, refuses, outcome}
+use Rattle.stream.specs.Pieces.{Moved, scan}
 use Rattle.stream.specs.Call.{Seen, lent_least, called, delivered, retold, Steps}
 use Rattle.stream.specs.Call as Call
 use Rattle.stream.specs.Rule.{Settled, and_on, first_readings, readings}
-use Rattle.stream.specs.Family.{Family, Call, Allowed, used, told_from}
+use Rattle.stream.specs.Family.{Family}
 use Rattle.stream.specs.Demands.{as_told}
 use Rattle.stream.specs.Slice.{Asked, asked_of, slice_most, refused, answered, asked, retells, Answers, seen_by, SliceReader, AskedFrom, ends, tells, AskedToTheEnd, AtPlace, SameAsStreaming, GetsOn, AsksExist, Kept, SlicesAsStreams}
 use Rattle.stream.proofs.BytesOfParts.{bytes_drop}

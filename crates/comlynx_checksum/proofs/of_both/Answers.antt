@@ -1,7 +1,6 @@
 -- `comlynx_checksum::of_both` meets its contract: the loop over the first bytes, and on from there over the second.
 use Prim.Native.Nat.{ℕ}
 use mathlib.Core.Path.{◌∙◌, sym, ap}
-use borrow.Author.Rules.{rules}
 use Rattle.comlynx_checksum.specs.Checksum.{checksum_of, checksum_from}
 use Rattle.comlynx_checksum.proofs.ChecksumByBytes.{of_append}
 use Rattle.comlynx_checksum.proofs.of_both.Goals as goal

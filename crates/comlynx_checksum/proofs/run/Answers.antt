@@ -1,9 +1,6 @@
-use mathlib.Core.Path.{◌≡◌, refl}
-use Prim.Native.Nat.{◌≤◌, ◌-◌}
+use mathlib.Core.Path.{refl}
 use native.Mathlib.Omega.{arith}
 use borrow.Author.Rules.{rules}
-use lib.ListN.{length, drop}
-use Rattle.comlynx_checksum.specs.Checksum.{checksum_from}
 use Rattle.comlynx_checksum.proofs.ChecksumByBytes.{turn, ended}
 use Rattle.comlynx_checksum.proofs.run.Goals as goal
 

@@ -1,11 +1,8 @@
 -- `comlynx_checksum::run` meets its contract. The invariant: from the state reached, the bytes left lead to the whole checksum.
-use mathlib.Core.Path.{◌≡◌, refl}
+use mathlib.Core.Path.{◌≡◌}
 use Prim.Native.Nat.{◌≤◌, ◌-◌}
-use native.Mathlib.Omega.{arith}
-use borrow.Author.Rules.{rules}
 use lib.ListN.{length, drop}
 use Rattle.comlynx_checksum.specs.Checksum.{checksum_from}
-use Rattle.comlynx_checksum.proofs.ChecksumByBytes.{turn, ended}
 use Rattle.comlynx_checksum.proofs.run.Given as goal
 
 abbrev pub invariant-loop-i : goal.invariant-loop-i
