@@ -6,7 +6,7 @@ ghost use Rattle.answers.specs.Damage.{IsDamageNumber};
 ghost use Rattle.answers.specs.Written.{IsLength, IsWrittenNumber};
 
 // Why a call refused. A case carries nothing, so that no two of them can be told alike.
-#[derive(Drop)]
+#[derive(Clone, Copy)]
 pub enum Refusal {
     // 8: data too long to write
     TooLong,
@@ -41,7 +41,7 @@ pub enum Refusal {
 }
 
 // What a reader found wrong with bytes that it then passed over.
-#[derive(Drop)]
+#[derive(Clone, Copy)]
 pub enum Damage {
     // 2: an escape that is followed by neither of its two bytes
     BrokenPair,
@@ -60,7 +60,7 @@ pub enum Damage {
 }
 
 // What a writer did with the buffer lent to it.
-#[derive(Drop)]
+#[derive(Clone, Copy)]
 pub enum Written {
     // so many bytes stand at its front
     Done(usize),

@@ -45,7 +45,7 @@ pub struct Reader {
 }
 
 // A message, but for its data, which stand at the front of the lent buffer.
-#[derive(Drop)]
+#[derive(Clone, Copy)]
 pub struct Header {
     pub source: u16,
     pub destination: u16,
@@ -55,7 +55,7 @@ pub struct Header {
     pub len: usize,
 }
 
-#[derive(Drop)]
+#[derive(Clone, Copy)]
 pub enum Answer {
     // the piece is used up
     Done,
@@ -74,7 +74,7 @@ pub struct Step {
 }
 
 // What a call over lent held bytes hands back: the rest of the reader to go on with, the answer, and how many bytes of the piece were used.
-#[derive(Drop)]
+#[derive(Clone, Copy)]
 pub struct StepInPlace {
     pub stage: u8,
     pub came: u16,
@@ -137,7 +137,7 @@ fn plus(came: u16, n: usize) -> u16
 }
 
 // What one byte asks of the reader.
-#[derive(Drop)]
+#[derive(Clone, Copy)]
 enum Move {
     // nothing
     Skip,
@@ -209,7 +209,7 @@ fn advance(stage: u8, count: usize, b: u8) -> Move
 }
 
 // How a run over a piece ended.
-#[derive(Drop)]
+#[derive(Clone, Copy)]
 pub(crate) enum End {
     UsedUp,
     // at the flag that closes a stretch of so many unstuffed bytes, for which so many came
@@ -219,7 +219,7 @@ pub(crate) enum End {
 }
 
 // What a run hands back beside the held bytes.
-#[derive(Drop)]
+#[derive(Clone, Copy)]
 struct Ran {
     stage: u8,
     came: u16,
@@ -480,7 +480,7 @@ pub(crate) fn deliver(answer: Answer, held: &[u8], lent: &mut [u8])
         Answer::Message(h) => {
             let n = h.len;
             let end = Reader::HEADER + n;
-            bytes::copy(&held[Reader::HEADER..end], lent);
+            lent[..n].copy_from_slice(&held[Reader::HEADER..end]);
         }
         Answer::Done => {}
         Answer::Damaged { what: _, lost: _ } => {}

@@ -30,8 +30,9 @@ fn keep_part(count: usize, held: &mut [u8], part: &[u8]) -> usize
     if Reader::BODY - count < part.len() {
         return TOO_MANY;
     }
-    bytes::copy(part, &mut held[count..]);
-    count + part.len()
+    let end = count + part.len();
+    held[count..end].copy_from_slice(part);
+    end
 }
 
 // The same of the one byte that a pair stands for.

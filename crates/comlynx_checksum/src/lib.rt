@@ -98,7 +98,7 @@ pub fn of_first(bytes: &[u8], n: usize) -> u16
 }
 
 // The two bytes that follow a body, in the order in which they are sent.
-#[derive(Drop)]
+#[derive(Clone, Copy)]
 pub struct Sent {
     pub low: u8,
     pub high: u8,

@@ -7,7 +7,7 @@ ghost use Rattle.comlynx_meaning.specs.Meaning.{told, transmission_error, applic
 use answers::Refusal;
 
 // What a message says.
-#[derive(Drop)]
+#[derive(Clone, Copy)]
 pub enum Meaning {
     // each with its id
     Request(u8),
@@ -57,7 +57,7 @@ pub fn meaning_of(kind: u8, payload: &[u8]) -> Meaning
 }
 
 // An address has 4, 4 and 8 bits. Node 255 is every node.
-#[derive(Drop)]
+#[derive(Clone, Copy)]
 pub struct Address {
     pub network: u8,
     pub subnet: u8,
@@ -79,7 +79,7 @@ pub fn address_of(word: u16) -> Address
 }
 
 // What putting an address together came to.
-#[derive(Drop)]
+#[derive(Clone, Copy)]
 pub enum Addressed {
     // as it stands in a header
     Word(u16),

@@ -64,7 +64,7 @@ pub struct Reader {
 }
 
 // A message, but for its data, which stand at the front of the lent buffer. All are characters as they were sent.
-#[derive(Drop)]
+#[derive(Clone, Copy)]
 pub struct Header {
     pub opening: u8,
     pub station_first: u8,
@@ -74,7 +74,7 @@ pub struct Header {
     pub len: usize,
 }
 
-#[derive(Drop)]
+#[derive(Clone, Copy)]
 pub enum Answer {
     // the piece is used up
     Done,
@@ -93,7 +93,7 @@ pub struct Step {
 }
 
 // What a call over lent held bytes hands back: the rest of the reader to go on with, the answer, and how many bytes of the piece were used.
-#[derive(Drop)]
+#[derive(Clone, Copy)]
 pub struct StepInPlace {
     pub stage: u8,
     pub count: usize,
@@ -137,7 +137,7 @@ fn in_range(stage: u8, count: usize) -> bool
 }
 
 // What one byte asks of the reader.
-#[derive(Drop)]
+#[derive(Clone, Copy)]
 enum Move {
     // nothing
     Skip,
@@ -171,7 +171,7 @@ fn advance(stage: u8, count: usize, b: u8) -> Move
 }
 
 // How a run over a piece ended.
-#[derive(Drop)]
+#[derive(Clone, Copy)]
 enum End {
     UsedUp,
     // at the EOT of a frame with this opening byte, behind which so many characters came
@@ -179,7 +179,7 @@ enum End {
 }
 
 // What a run hands back beside the held bytes.
-#[derive(Drop)]
+#[derive(Clone, Copy)]
 struct Ran {
     stage: u8,
     count: usize,
@@ -393,7 +393,7 @@ pub(crate) fn deliver(answer: Answer, held: &[u8], lent: &mut [u8])
         Answer::Message(h) => {
             let n = h.len;
             let end = PAYLOAD_AT + n;
-            bytes::copy(&held[PAYLOAD_AT..end], lent);
+            lent[..n].copy_from_slice(&held[PAYLOAD_AT..end]);
         }
         Answer::Done => {}
         Answer::Damaged { what: _, lost: _ } => {}

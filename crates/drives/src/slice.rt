@@ -16,7 +16,7 @@ use numbers::least;
 pub const SLICE: usize = 65536;
 
 // The next answer, and the place after it.
-#[derive(Drop)]
+#[derive(Clone, Copy)]
 pub struct Found {
     pub answer: Answer,
     pub place: usize,

@@ -62,8 +62,8 @@ pub fn write(
         return Written::Refused(Refusal::NoRoom);
     }
     put_lead(opening, station_first, station_second, letter, lent);
-    bytes::copy(payload, &mut lent[Reader::HEADER..]);
     let last = Reader::HEADER + n;
+    lent[Reader::HEADER..last].copy_from_slice(payload);
     let sum = checksum_of(&lent[OPENING..last]);
     put_end(sum, last, lent);
     Written::Done(length)

@@ -8,7 +8,7 @@ ghost use Rattle.drives_meaning.specs.Replies.{every_drive, IsReplyExpected};
 use answers::Refusal;
 
 // Whether a message expects a reply.
-#[derive(Drop)]
+#[derive(Clone, Copy)]
 pub enum Expected {
     // the drive of its station answers it
     Reply,

@@ -59,7 +59,7 @@ pub struct Reader {
 }
 
 // A message, but for its data, which stand at the front of the lent buffer. Addresses are two bytes, as sent.
-#[derive(Drop)]
+#[derive(Clone, Copy)]
 pub struct Header {
     pub source_first: u8,
     pub source_second: u8,
@@ -71,7 +71,7 @@ pub struct Header {
     pub len: usize,
 }
 
-#[derive(Drop)]
+#[derive(Clone, Copy)]
 pub enum Answer {
     // the piece is used up
     Done,
@@ -90,7 +90,7 @@ pub struct Step {
 }
 
 // What a call over lent held bytes hands back: the rest of the reader to go on with, the answer, and how many bytes of the piece were used.
-#[derive(Drop)]
+#[derive(Clone, Copy)]
 pub struct StepInPlace {
     pub stage: u8,
     pub count: usize,
@@ -149,7 +149,7 @@ fn most_of(stage: u8, len: usize) -> usize
 }
 
 // What one byte since AA 55 asks of the reader.
-#[derive(Drop)]
+#[derive(Clone, Copy)]
 enum Move {
     // one more byte of the lead or the body
     Keep,
@@ -174,7 +174,7 @@ fn advance(stage: u8, count: usize, len: usize) -> Move
 }
 
 // Where a hunt for AA 55 ends: at the index after the 55, or at the end of the piece, in a stage of looking.
-#[derive(Drop)]
+#[derive(Clone, Copy)]
 enum HuntEnd {
     Found(usize),
     End(u8),
@@ -206,7 +206,7 @@ fn hunt(stage: u8, piece: &[u8], from: usize) -> HuntEnd
 }
 
 // How a run over a piece ended.
-#[derive(Drop)]
+#[derive(Clone, Copy)]
 enum End {
     UsedUp,
     // a frame of so many data bytes is held, and this is the last byte of its checksum
@@ -214,7 +214,7 @@ enum End {
 }
 
 // What a run hands back beside the held bytes.
-#[derive(Drop)]
+#[derive(Clone, Copy)]
 struct Ran {
     stage: u8,
     count: usize,
@@ -373,7 +373,7 @@ pub(crate) fn deliver(answer: Answer, held: &[u8], lent: &mut [u8])
         Answer::Message(h) => {
             let n = h.len;
             let end = PAYLOAD_AT + n;
-            bytes::copy(&held[PAYLOAD_AT..end], lent);
+            lent[..n].copy_from_slice(&held[PAYLOAD_AT..end]);
         }
         Answer::Done => {}
         Answer::Damaged { what: _, lost: _ } => {}

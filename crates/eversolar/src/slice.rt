@@ -19,7 +19,7 @@ use answers::Refusal;
 pub const SLICE: usize = 65536;
 
 // The next answer, and the place after it.
-#[derive(Drop)]
+#[derive(Clone, Copy)]
 pub struct Found {
     pub answer: Answer,
     pub place: usize,

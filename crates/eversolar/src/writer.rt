@@ -66,7 +66,7 @@ pub fn write(
         n as u8,
         lent,
     );
-    bytes::copy(payload, &mut lent[Reader::HEADER..]);
+    lent[Reader::HEADER..sum_at].copy_from_slice(payload);
     let sum = checksum_of(n, &lent[MARKS..]);
     let pair = bytes_of(sum);
     lent[sum_at] = pair.first;

@@ -6,7 +6,7 @@ use answers::Refusal;
 use eversolar_words::word;
 
 // The energy that an inverter has delivered in all.
-#[derive(Drop)]
+#[derive(Clone, Copy)]
 pub enum Energy {
     // in tenths of a kWh
     Tenths(u32),

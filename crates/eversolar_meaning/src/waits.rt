@@ -4,7 +4,7 @@ ghost use Rattle.eversolar_meaning.specs.Waits.{IsWait};
 use answers::Refusal;
 
 // What an inverter waits before it asks again for an address.
-#[derive(Drop)]
+#[derive(Clone, Copy)]
 pub enum Wait {
     // So many intervals between the master's off-line queries (001, 1.2). How long one is, 001 leaves to the master.
     Intervals(u64),

@@ -11,7 +11,7 @@ use answers::{Refusal, Written};
 use eversolar::write;
 
 // Requests that go to every inverter.
-#[derive(Drop)]
+#[derive(Clone, Copy)]
 pub enum ToAll {
     // 10/00: who is not registered
     OffLine,
@@ -22,7 +22,7 @@ pub enum ToAll {
 }
 
 // Requests that go to one address.
-#[derive(Drop)]
+#[derive(Clone, Copy)]
 pub enum ToOne {
     // 10/02: the registration is removed
     Remove,
@@ -60,7 +60,7 @@ const SERIAL_SIZE: usize = 16;
 const LAST_ADDRESS: u8 = 254;
 
 // A control and a function.
-#[derive(Drop)]
+#[derive(Clone, Copy)]
 struct Code {
     control: u8,
     function: u8,
@@ -173,7 +173,7 @@ pub fn give_address(serial: &[u8], address: u8, lent: &mut [u8]) -> Written
         return Written::Refused(Refusal::NotForThisCall);
     }
     let mut payload = [0; SERIAL_SIZE + 1];
-    bytes::copy(serial, &mut payload);
+    payload[..SERIAL_SIZE].copy_from_slice(serial);
     payload[SERIAL_SIZE] = address;
     from_master(EVERYONE, REGISTER, GIVE, &payload, lent)
 }

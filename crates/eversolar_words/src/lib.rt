@@ -4,7 +4,7 @@
 ghost use Rattle.eversolar_words.specs.Words.{IsWord, IsBytesOf};
 
 // The two bytes of a word, as they go on the wire.
-#[derive(Drop)]
+#[derive(Clone, Copy)]
 pub struct Pair {
     pub first: u8,
     pub second: u8,

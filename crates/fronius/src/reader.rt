@@ -50,7 +50,7 @@ pub struct Reader {
 }
 
 // A message, but for its data, which stand at the front of the lent buffer.
-#[derive(Drop)]
+#[derive(Clone, Copy)]
 pub struct Header {
     pub device: u8,
     pub number: u8,
@@ -59,7 +59,7 @@ pub struct Header {
     pub len: usize,
 }
 
-#[derive(Drop)]
+#[derive(Clone, Copy)]
 pub enum Answer {
     // the piece is used up
     Done,
@@ -78,7 +78,7 @@ pub struct Step {
 }
 
 // What a call over lent held bytes hands back: the rest of the reader to go on with, the answer, and how many bytes of the piece were used.
-#[derive(Drop)]
+#[derive(Clone, Copy)]
 pub struct StepInPlace {
     pub stage: u8,
     pub count: usize,
@@ -117,7 +117,7 @@ fn in_range(stage: u8, count: usize, len: usize) -> bool
 }
 
 // What one byte asks of the reader.
-#[derive(Drop)]
+#[derive(Clone, Copy)]
 enum Move {
     // so many successive 80s
     Count(usize),
@@ -158,7 +158,7 @@ fn advance(stage: u8, count: usize, len: usize, b: u8) -> Move
 }
 
 // How a run over a piece ended.
-#[derive(Drop)]
+#[derive(Clone, Copy)]
 enum End {
     UsedUp,
     // a frame of so many data bytes is held, and this is the checksum that came
@@ -167,7 +167,7 @@ enum End {
 }
 
 // What a run hands back beside the held bytes.
-#[derive(Drop)]
+#[derive(Clone, Copy)]
 struct Ran {
     stage: u8,
     count: usize,
@@ -232,7 +232,7 @@ fn take_body(len: usize, held: &mut [u8], piece: &[u8]) -> usize
 }
 
 // The state to go on in byte by byte, and the index to go on from.
-#[derive(Drop)]
+#[derive(Clone, Copy)]
 struct Entered {
     stage: u8,
     count: usize,
@@ -396,7 +396,7 @@ pub(crate) fn deliver(answer: Answer, held: &[u8], lent: &mut [u8])
         Answer::Message(h) => {
             let n = h.len;
             let end = PAYLOAD_AT + n;
-            bytes::copy(&held[PAYLOAD_AT..end], lent);
+            lent[..n].copy_from_slice(&held[PAYLOAD_AT..end]);
         }
         Answer::Done => {}
         Answer::Damaged { what: _, lost: _ } => {}

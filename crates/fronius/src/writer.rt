@@ -36,7 +36,7 @@ pub fn write(device: u8, number: u8, command: u8, payload: &[u8], lent: &mut [u8
         return Written::Refused(Refusal::NoRoom);
     }
     put_lead(n as u8, device, number, command, lent);
-    bytes::copy(payload, &mut lent[Reader::HEADER..]);
+    lent[Reader::HEADER..last].copy_from_slice(payload);
     let sum = checksum_of(n, &lent[UNHELD..]);
     lent[last] = sum;
     Written::Done(length)

@@ -7,7 +7,7 @@ use answers::Refusal;
 use numbers::word;
 
 // What a measured value came to.
-#[derive(Drop)]
+#[derive(Clone, Copy)]
 pub enum Measured {
     // value times ten to the exponent, exactly
     Thousandths(i64),

@@ -11,7 +11,7 @@ use answers::Refusal;
 use numbers::word;
 
 // What was measured, in the unit of its kind.
-#[derive(Drop)]
+#[derive(Clone, Copy)]
 pub enum Reading {
     // W
     Power(f64),
@@ -28,7 +28,7 @@ pub enum Reading {
 }
 
 // What reading a message came to.
-#[derive(Drop)]
+#[derive(Clone, Copy)]
 pub enum Read {
     Value(Reading),
     Refused(Refusal),

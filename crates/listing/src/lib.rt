@@ -34,7 +34,7 @@ pub struct Listing {
 }
 
 // What a call came to.
-#[derive(Drop)]
+#[derive(Clone, Copy)]
 pub enum Heard {
     // the input at hand is the front of a packet, and more is to come: nothing is used or written
     More,

@@ -33,7 +33,7 @@ pub fn title(lent: &mut [u8]) -> Written
     if lent.len() < TITLE.len() {
         return Written::Refused(Refusal::NoRoom);
     }
-    bytes::copy(&TITLE, lent);
+    lent[..TITLE.len()].copy_from_slice(&TITLE);
     Written::Done(TITLE.len())
 }
 
@@ -207,7 +207,7 @@ pub fn stop(number: u8, lent: &mut [u8]) -> Written
     if lent.len() < STOP.len() + places(number as u64) + 1 {
         return Written::Refused(Refusal::NoRoom);
     }
-    bytes::copy(&STOP, lent);
+    lent[..STOP.len()].copy_from_slice(&STOP);
     Written::Done(put_number(number as u64, b'\n', lent, STOP.len()))
 }
 
@@ -218,7 +218,7 @@ pub fn end(messages: u64, damages: u64, lent: &mut [u8]) -> Written
     if lent.len() < END.len() + places(messages) + places(damages) + 2 {
         return Written::Refused(Refusal::NoRoom);
     }
-    bytes::copy(&END, lent);
+    lent[..END.len()].copy_from_slice(&END);
     let p = put_number(messages, b' ', lent, END.len());
     Written::Done(put_number(damages, b'\n', lent, p))
 }

@@ -36,7 +36,7 @@ pub struct Ports {
 }
 
 // A message is told by its family's header; its data stand at the front of the lent buffer.
-#[derive(Drop)]
+#[derive(Clone, Copy)]
 pub enum Answer {
     // the piece is used up
     Done,

@@ -28,14 +28,14 @@ const FREE: u8 = 0;
 const USED: u8 = 1;
 
 // A place, as the rule sees it. Over lent bytes it is read where it stands.
-#[derive(Drop)]
+#[derive(Clone, Copy)]
 pub struct Place {
     pub mark: u8,
     pub serial: [u8; SERIAL_SIZE],
 }
 
 // What giving an address came to.
-#[derive(Drop)]
+#[derive(Clone, Copy)]
 pub enum Given {
     // the address that the serial has now
     Address(u8),
@@ -44,7 +44,7 @@ pub enum Given {
 }
 
 // What removing an address came to.
-#[derive(Drop)]
+#[derive(Clone, Copy)]
 pub enum Removed {
     // it is free now
     Done,
@@ -53,7 +53,7 @@ pub enum Removed {
 }
 
 // What looking for a serial came to.
-#[derive(Drop)]
+#[derive(Clone, Copy)]
 pub enum Found {
     // the address that it has
     Address(u8),
@@ -166,7 +166,7 @@ fn put(roster: &mut [u8], k: usize, mark: u8, serial: &[u8])
     let at = k * PLACE_SIZE;
     let from = at + 1;
     roster[at] = mark;
-    bytes::copy(serial, &mut roster[from..]);
+    roster[from..from + SERIAL_SIZE].copy_from_slice(serial);
 }
 
 // Gives a serial its address in a roster that was tested, so that many can be given after one test.

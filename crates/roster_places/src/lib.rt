@@ -16,7 +16,7 @@ pub use held::{HeldGiven, HeldRemoved, find_held, give_held, remove_held};
 use roster::{Found, Given, PLACE_SIZE, PLACES, Place, ROSTER_SIZE, Removed, SERIAL_SIZE};
 
 // What giving comes to: the answer, and the one place that is written, none where `at` lies past the last.
-#[derive(Drop)]
+#[derive(Clone, Copy)]
 struct GivePlan {
     at: usize,
     place: Place,
@@ -24,7 +24,7 @@ struct GivePlan {
 }
 
 // What removing comes to, likewise.
-#[derive(Drop)]
+#[derive(Clone, Copy)]
 struct RemovePlan {
     at: usize,
     place: Place,

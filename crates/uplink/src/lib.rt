@@ -18,7 +18,7 @@ pub const LEAD: usize = 7;
 pub const PIECE_MAX: usize = 240;
 
 // What the bytes at the front of a slice are read as.
-#[derive(Drop)]
+#[derive(Clone, Copy)]
 pub enum Received {
     // The piece is the `count` bytes behind the lead; what follows the `used` bytes belongs to the next packet.
     Packet { port: u8, count: u8, used: usize },
@@ -114,6 +114,6 @@ pub fn write(port: u8, piece: &[u8], lent: &mut [u8]) -> Written
         return Written::Refused(Refusal::NoRoom);
     }
     put_lead(version, port, count as u8, lent);
-    bytes::copy(piece, &mut lent[LEAD..]);
+    lent[LEAD..used].copy_from_slice(piece);
     Written::Done(used)
 }
