@@ -1,0 +1,14 @@
+-- `reader::fill`: each character taken in is one that the machine keeps, so the call goes on from there.
+use Rattle.drives.specs.Inside.{Filled}
+use Rattle.drives.proofs.FillScans.{filled_none, filled_more}
+use native.Mathlib.Omega.{arith}
+use Prim.Native.Nat.{◌+◌, ◌-◌, ◌≤◌}
+use mathlib.Core.Path.{◌≡◌}
+use borrow.Author.Rules.{rules}
+use Rattle.drives.proofs.reader.fill.Given as goal
+
+abbrev pub invariant-loop-i : goal.invariant-loop-i
+invariant-loop-i l = (l.i ≤ l.stop) × (l.at ≡ l.count + (l.i - l.from)) × Filled l.count l.initial.held l.piece l.from l.i l.held
+
+abbrev pub decreases-loop-i : goal.decreases-loop-i
+decreases-loop-i l = l.stop - l.i

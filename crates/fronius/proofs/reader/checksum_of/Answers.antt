@@ -1,0 +1,9 @@
+-- `reader::checksum_of`: the sum, modulo 256.
+use native.Mathlib.Omega.{arith}
+use Rattle.fronius.specs.Wire.{checksum}
+use borrow.Author.Rules.{rules}
+use Rattle.fronius.proofs.reader.checksum_of.Goals as goal
+
+pub returns : goal.returns
+unfolding checksum
+returns c = omega (arith, c.total_of.ensures)

@@ -1,0 +1,20 @@
+-- `reader::fill`: each byte copied is one that the machine keeps, so the call goes on from there.
+use lib.ListN.{length-set}
+use Rattle.stream.specs.Pieces.{scan_from}
+use Rattle.stream.proofs.LoopScans.{from_goes}
+use Rattle.fronius.specs.Machine.{filling, next}
+use Rattle.fronius.proofs.MachineMoves.{fill_more}
+use native.Mathlib.Omega.{arith}
+use Prim.Native.Nat.{ℕ, ◌+◌, ◌-◌, ◌≤◌}
+use mathlib.Core.Path.{◌≡◌, refl, ◌∙◌, ap}
+use lib.ListN.{length, get_or, set}
+use borrow.Author.Rules.{rules}
+use Rattle.fronius.proofs.reader.fill.Given as goal
+
+abbrev pub invariant-loop-i : goal.invariant-loop-i
+invariant-loop-i l =
+    (l.from ≤ l.i) × (l.i ≤ l.stop) × (l.at ≡ l.count + (l.i - l.from)) × (length l.held ≡ length l.initial.held)
+    × (scan_from next (filling l.count l.len l.initial.held) l.piece l.from ≡ scan_from next (filling l.at l.len l.held) l.piece l.i)
+
+abbrev pub decreases-loop-i : goal.decreases-loop-i
+decreases-loop-i l = l.stop - l.i

@@ -1,0 +1,25 @@
+-- `reader::in_range`: at each return the tests that led there pick the case of `inRange`.
+use borrow.Author.Tests.{le-leb, lt-leb, eq-eqb, ne_eqb}
+use Rattle.fronius.specs.Machine.{in_range}
+use borrow.Author.Rules.{rules}
+use Rattle.fronius.proofs.reader.in_range.Goals as goal
+
+pub returns-then-count-gt-STARTS : goal.returns-then-count-gt-STARTS
+unfolding in_range
+returns-then-count-gt-STARTS c = simp (eq-eqb _ _ c.if-stage-eq-AT_START.true, lt-leb _ _ c.if-count-gt-STARTS.true)
+
+pub returns-then-stage-eq-AT_START : goal.returns-then-stage-eq-AT_START
+unfolding in_range
+returns-then-stage-eq-AT_START c = simp (eq-eqb _ _ c.if-stage-eq-AT_START.true, le-leb _ _ c.if-count-gt-STARTS.false)
+
+pub returns-then-stage-ne-IN_BODY : goal.returns-then-stage-ne-IN_BODY
+unfolding in_range
+returns-then-stage-ne-IN_BODY c = simp (ne_eqb _ _ c.if-stage-eq-AT_START.false, ne_eqb _ _ c.if-stage-ne-IN_BODY.true)
+
+pub returns-then-len-gt-PAYLOAD : goal.returns-then-len-gt-PAYLOAD
+unfolding in_range
+returns-then-len-gt-PAYLOAD c = simp (ne_eqb _ _ c.if-stage-eq-AT_START.false, eq-eqb _ _ c.if-stage-ne-IN_BODY.false, lt-leb _ _ c.if-len-gt-PAYLOAD.true)
+
+pub returns : goal.returns
+unfolding in_range
+returns c = simp (ne_eqb _ _ c.if-stage-eq-AT_START.false, eq-eqb _ _ c.if-stage-ne-IN_BODY.false, le-leb _ _ c.if-len-gt-PAYLOAD.false)

@@ -1,0 +1,15 @@
+-- `reader::total_of`: the sum so far is that of the bytes passed, modulo 256.
+use Rattle.numbers.specs.Lists.{total}
+use Rattle.fronius.proofs.MachineMoves.{total_more}
+use native.Mathlib.Omega.{arith}
+use Prim.Native.Nat.{ℕ, ◌-◌, ◌%◌, ◌≤◌}
+use mathlib.Core.Path.{◌≡◌, refl, ◌∙◌, ap}
+use lib.ListN.{take}
+use borrow.Author.Rules.{rules}
+use Rattle.fronius.proofs.reader.total_of.Given as goal
+
+abbrev pub invariant-loop-i : goal.invariant-loop-i
+invariant-loop-i l = (l.i ≤ l.n) × (l.sum ≡ total (take l.i l.s) % 256)
+
+abbrev pub decreases-loop-i : goal.decreases-loop-i
+decreases-loop-i l = l.n - l.i
