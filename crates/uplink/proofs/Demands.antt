@@ -16,7 +16,7 @@ use Rattle.answers.specs.declared.Refusal.TheVariants.{WrongPortOrCount}
 use Rattle.answers.specs.declared.Written.{Written}
 use Rattle.answers.specs.declared.Written.TheVariants.{Done, Refused}
 use Rattle.answers.proofs.WriterPromise.{writes_frame, writes_nothing}
-use Rattle.uplink.specs.Packet.{version_of, known, takes, lead_length, packet, told, packet_at, written, IsWritten}
+use Rattle.uplink.specs.Packet.{version_of, known, takes, lead_length, packet, packet_at, written, IsWritten}
 use Rattle.uplink.specs.Demands.{ReadsBack, Begins, Accepts, Kept, Fits, SecondVersion, WrittenForPort4, ReadForPort4}
 use Rattle.uplink.proofs.PacketTests.{counted_within, packet_length, by_writer}
 use Rattle.uplink.proofs.AcceptedIsWritten.{held, never, tested, port_within, version_small, version_2, begins, reads_packet}

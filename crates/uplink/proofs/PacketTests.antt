@@ -1,15 +1,14 @@
 -- Laws of the packet's tests, and of the stores and the copy that write a packet. Assumes nothing.
 use Prim.Native.Nat.{ℕ, ◌+◌, ◌-◌, ◌≤◌, ◌<◌}
 use mathlib.Core.Path.{◌≡◌, sym, ap, ◌∙◌}
-use mathlib.Core.List.{List, [], ◌∷◌, ◌++◌, append-nil}
+use mathlib.Core.List.{List, [], ◌∷◌, ◌++◌}
 use mathlib.Core.Bool.{true, false}
-use native.Mathlib.Nat.{le_refl}
 use native.Mathlib.Omega.{arith}
-use lib.ListN.{length, take, drop, length-drop, drop_of_length-le}
-use lib.Seq.{take_all, take-length, drop-drop, sets, sets-eq}
+use lib.ListN.{length, take, drop}
+use lib.Seq.{drop-drop, sets, sets-eq}
 use lib.Dec.{leb, eqb}
 use borrow.Author.Tests.{leb-true, le-leb, lt-leb}
-use borrow.Rule.Slice.PartMut.{put_mid}
+use borrow.Rule.Slice.PartMut.{put_mid, Post-is}
 use Rattle.numbers.proofs.TestLaws.{both}
 use Rattle.answers.specs.Answer.{answer, need}
 use Rattle.answers.specs.Refusal.{refused}
@@ -104,21 +103,16 @@ module _ (port : ℕ) (piece lent : List ℕ) where
       let long = packet_length port piece in
       writes (Done (lead_length + length piece)) later t (rw (e, sym long) (writes_done (packet port piece) lent (omega arith)))
 
--- src copied to the front of `&mut l[at..]`
-mid_paste : (l m src : List ℕ) (at : ℕ)
-    → m ≡ take (length src) src ++ drop (length src) (take (length l - at) (drop at l))
-    → put_mid at (length l - at) l m ≡ take at l ++ (src ++ drop (at + length src) l)
-mid_paste l m src at e =
-    let whole : take (length l - at) (drop at l) ≡ drop at l = take_all (length l - at) (drop at l) (simp length-drop (le_refl _)) in
-    let none : drop (length l - at) (drop at l) ≡ [] = drop_of_length-le (drop at l) {i = length l - at} (simp length-drop (le_refl _)) in
-    simp (none, append-nil, e, whole, drop-drop, take-length)
+-- src copied to `&mut l[at..at + length src]`
+mid_paste : (l m src : List ℕ) (at : ℕ) → m ≡ src → put_mid at (at + length src - at) l m ≡ take at l ++ (src ++ drop (at + length src) l)
+mid_paste l m src at e = simp (e, Post-is at (at + length src) l (omega arith))
 
 -- the lead stored at the front, and the piece copied behind it, are the packet
 pub packet_put : (version port : ℕ) (piece lent k m : List ℕ) → lead_length + length piece ≤ length lent
     → version ≡ version_of port
     → k ≡ sets lent 0 (lead version port (length piece))
-    → m ≡ take (length piece) piece ++ drop (length piece) (take (length k - lead_length) (drop lead_length k))
-    → put_mid lead_length (length k - lead_length) k m ≡ packet port piece ++ drop (lead_length + length piece) lent
+    → m ≡ piece
+    → put_mid lead_length (lead_length + length piece - lead_length) k m ≡ packet port piece ++ drop (lead_length + length piece) lent
 packet_put version port piece lent k m h v e f =
     let first : List ℕ = lead (version_of port) port (length piece) in
     let stored : k ≡ first ++ drop lead_length lent =
