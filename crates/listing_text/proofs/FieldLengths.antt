@@ -9,7 +9,7 @@ use lib.Dec.{ltb}
 use borrow.Author.Tests.{lt-ltb, le-ltb, ltb-true, ltb-false, ne_eqb}
 use native.Mathlib.Nat.{add-zero, zero-add, add-suc, suc-add, le_of_suc-le-suc, not-suc-le-zero}
 use native.Mathlib.Omega.{arith}
-use Rattle.listing_text.specs.Lines.{hex_digit, hex, field, digits, decimal, title_line, Shown, message_line, damage_line, stop_line, end_word, end_line}
+use Rattle.listing_text.specs.Lines.{hex_digit, hex, field, digits, decimal, Shown, message_line, damage_line, stop_line, end_word, end_line}
 use Rattle.listing_text.specs.Inside.{width_of, digits_from, hex_digits, places_max, line_length, start}
 
 -- ---- hex

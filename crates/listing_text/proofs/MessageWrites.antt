@@ -1,7 +1,7 @@
 -- The line of a message by its two tests, and by its fields put one behind the other: one law each, over the four lists, for every function that
 -- writes such a line.
 -- Assumes nothing.
-use Prim.Native.Nat.{ℕ, ◌+◌, ◌<◌, ◌≤◌}
+use Prim.Native.Nat.{ℕ, ◌≤◌}
 use mathlib.Core.Path.{◌≡◌, refl, sym, ◌∙◌}
 use mathlib.Core.Bool.{Bool, true, false, ◌||◌}
 use mathlib.Core.List.{List, [], ◌∷◌, ◌++◌}
@@ -11,7 +11,7 @@ use borrow.Author.Tests.{ltb-true, ltb-false}
 use native.Mathlib.Omega.{arith}
 use Rattle.numbers.proofs.Alike.{zero_is_one}
 use Rattle.answers.specs.Written.{Writes}
-use Rattle.answers.specs.declared.Refusal.TheVariants.{TooLong, NoRoom}
+use Rattle.answers.specs.declared.Refusal.TheVariants.{NoRoom}
 use Rattle.answers.specs.declared.Written.TheVariants.{Done, Refused}
 use Rattle.answers.proofs.WriterPromise.{writes_too_long, writes_no_room}
 use Rattle.listing_text.specs.Lines.{field, field_max, Shown, too_long, message_line, IsMessage}

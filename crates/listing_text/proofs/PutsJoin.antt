@@ -4,8 +4,9 @@ use Prim.Native.Nat.{ℕ, suc, ◌+◌, ◌/◌, ◌%◌, ◌≤◌, ◌<◌}
 use mathlib.Core.Path.{◌≡◌, refl, sym, ap, subst, ◌∙◌}
 use mathlib.Core.Bool.{false}
 use mathlib.Core.List.{List, [], ◌∷◌, ◌++◌}
-use lib.ListN.{length, take, drop, set, get_or, length-append}
-use lib.Seq.{sets, sets-eq, drop-cons, take-length}
+use lib.ListN.{length, drop, set, get_or, length-append}
+use lib.Seq.{sets, sets-eq, drop-cons}
+use borrow.Rule.Slice.PartMut.{put_mid}
 use native.Mathlib.Nat.{add-zero, zero-add, add-suc, suc-add}
 use native.Mathlib.Numerals.{add-one}
 use native.Mathlib.Omega.{arith}
@@ -53,5 +54,7 @@ two bs l i p h =
     rw (drop-cons bs i 0, add-one i, add-one p, next)
 
 -- a whole list copied to the front
-pub copied : (l src : List ℕ) → length src ≤ length l → take (length src) src ++ drop (length src) l ≡ sets l 0 src
-copied l src room = ap (λ (k : List ℕ). k ++ drop (length src) l) (take-length src) ∙ sym (put_front l src room)
+pub copied : (l m src : List ℕ) → length src ≤ length l → m ≡ src → put_mid 0 (length src) l m ≡ sets l 0 src
+copied l m src room e =
+    let rest : drop (length src) (drop 0 l) ≡ drop (length src) l = ap (λ (k : List ℕ). drop (length src) k) refl in
+    rw e (ap (λ (k : List ℕ). src ++ k) rest) ∙ sym (put_front l src room)

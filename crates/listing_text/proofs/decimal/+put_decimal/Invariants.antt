@@ -1,0 +1,5 @@
+-- `put_decimal` ends: a digit less each time.
+use Rattle.listing_text.proofs.decimal.+put_decimal.Given as goal
+
+abbrev pub decreases-put_decimal : goal.decreases-put_decimal
+decreases-put_decimal l = l.n

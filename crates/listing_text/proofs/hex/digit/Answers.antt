@@ -1,0 +1,12 @@
+-- `digit` meets its promise: by its one test.
+use borrow.Author.Tests.{lt-ltb, le-ltb}
+use Rattle.listing_text.specs.Lines.{hex_digit}
+use Rattle.listing_text.proofs.hex.digit.Goals as goal
+
+pub returns-then-n-lt10 : goal.returns-then-n-lt10
+unfolding hex_digit
+returns-then-n-lt10 c = simp (lt-ltb _ _ c.if-n-lt10.true)
+
+pub returns-else-n-lt10 : goal.returns-else-n-lt10
+unfolding hex_digit
+returns-else-n-lt10 c = simp (le-ltb _ _ c.if-n-lt10.false)

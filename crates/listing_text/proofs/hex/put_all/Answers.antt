@@ -1,0 +1,38 @@
+-- `put_all` meets its promise: the digits of one part behind those of the other.
+use native.Mathlib.Omega.{arith}
+use Prim.Native.Nat.{ℕ, ◌*◌, ◌/◌}
+use mathlib.Core.Path.{◌≡◌, sym}
+use mathlib.Core.List.{List}
+use lib.ListN.{length, take, drop}
+use lib.Seq.{length-take-le}
+use Rattle.listing_text.specs.Lines.{hex}
+use Rattle.listing_text.proofs.FieldLengths.{hex_length, hex_parts}
+use Rattle.listing_text.proofs.PutsJoin.{then}
+use Rattle.listing_text.proofs.hex.put_all.Goals as goal
+
+abbrev eights : List ℕ → ℕ
+eights bs = length bs / 8 * 8
+
+first : (bs : List ℕ) → length (take (eights bs) bs) ≡ eights bs
+first bs = length-take-le (eights bs) bs (omega arith)
+
+pub slice_bounds-put_hex-end : goal.slice_bounds-put_hex-end
+slice_bounds-put_hex-end c = sym (first c.args.bytes.now)
+
+pub put_hex-p-requires : goal.put_hex-p-requires
+put_hex-p-requires c = omega (arith, first c.args.bytes.now)
+
+pub put_rest-requires : goal.put_rest-requires
+put_rest-requires c =
+    let d = c in
+    let bs = d.args.bytes.now in
+    (d.digits-t.ensures, omega arith, omega (arith, d.put_hex-p.ensures.0, hex_length (take (eights bs) bs), first bs))
+
+pub returns : goal.returns
+returns c =
+    let p = c in
+    let a = p.args in
+    let bs = a.bytes.now in
+    let q = c.put_rest in
+    let both = then a.lent.now p.put_hex-p.new.lent q.new.lent (hex (take (eights bs) bs)) (hex (drop (eights bs) bs)) a.at p.put_hex-p.result q.result p.put_hex-p.ensures q.ensures in
+    rw (hex_parts (eights bs) bs) at both
