@@ -17,7 +17,7 @@ use Rattle.stream.specs.Rule.{Settled}
 use Rattle.stream.specs.Demands.{EndsWith, BorneOut}
 use Rattle.stream.proofs.BytesOfParts.{bytes_at, bytes_tail, bytes_take, bytes_drop}
 use Rattle.stream.proofs.BorneOutByBytes.{in_test, none_found, same_found, ends_nothing, Bears, bears_on, bears_at, bears_all}
-use Rattle.fronius.specs.Wire.{Message, Takes, payload_max, mark, checksum, body, wire, message_of}
+use Rattle.fronius.specs.Wire.{Message, Takes, payload_max, mark, checksum, wire, message_of}
 use Rattle.fronius.specs.Rules.{judged, frame, sized, starts, sought, rule}
 use Rattle.fronius.specs.Demands.{fronius}
 

@@ -9,7 +9,7 @@ use native.Mathlib.Nat.{zero-add}
 use native.Mathlib.Omega.{arith}
 use Rattle.stream.specs.Pieces.{scan, scan_from}
 use Rattle.stream.proofs.LoopScans.{from_start, from_goes}
-use Rattle.fronius.specs.Wire.{mark, payload_max}
+use Rattle.fronius.specs.Wire.{mark}
 use Rattle.fronius.specs.Machine.{holding, counting, filling, in_range, next}
 use Rattle.fronius.specs.Inside.{Filled, Opens, Enters}
 use Rattle.fronius.proofs.MachineMoves.{count_more, size_mark, size_opens, fill_more}

@@ -3,9 +3,10 @@
 use Prim.Native.Nat.{ℕ, suc, ◌+◌, ◌-◌, ◌≤◌, ◌<◌}
 use mathlib.Core.Path.{◌≡◌, sym, ap, ◌∙◌, subst}
 use mathlib.Core.Bool.{false}
-use mathlib.Core.List.{List, [], ◌∷◌, ◌++◌}
+use mathlib.Core.List.{List, [], ◌∷◌, ◌++◌, append_assoc}
 use lib.ListN.{length, take, drop, set, length-append, length-drop}
-use lib.Seq.{sets, take_all, take-append_seam}
+use lib.Seq.{sets, sets-eq, drop-drop, take_all, take-append_seam}
+use borrow.Rule.Slice.PartMut.{put_mid}
 use borrow.Author.Tests.{lt-ltb, le-ltb}
 use native.Mathlib.Omega.{arith}
 use Rattle.answers.specs.Written.{Writes}
@@ -19,6 +20,10 @@ use Rattle.fronius.specs.Inside.{lead}
 
 pub wire_length : (m : Message) → length (wire m) ≡ length m.payload + 8
 wire_length m = simp length-append (omega arith)
+
+-- a part of as many elements, copied whole, is stores from its first place on
+pub put_copied : (l m src : List ℕ) (at k : ℕ) → k ≡ length src → at + length src ≤ length l → m ≡ src → put_mid at k l m ≡ sets l at src
+put_copied l m src at k n room e = rw (n, e, drop-drop) (sym (append_assoc (take at l) src (drop (at + length src) l)) ∙ sym (sets-eq src l at room))
 
 -- the three ends of the writer
 

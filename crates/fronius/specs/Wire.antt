@@ -1,5 +1,5 @@
 -- Fronius on the wire: 80 80 80, length, device, number, command, data, checksum.
-use Rattle.std.specs.Prelude.{ℕ, ◌+◌, ◌%◌, ◌≤◌, ◌<◌, List, [], ◌∷◌, ◌++◌, length, drop, get_or, T}
+use Rattle.std.specs.Prelude.{ℕ, ◌%◌, ◌≤◌, ◌<◌, List, [], ◌∷◌, ◌++◌, length, drop, get_or, T}
 use Rattle.std.proofs.Math.Pow.{are_bytes}
 use Rattle.numbers.specs.Lists.{total}
 

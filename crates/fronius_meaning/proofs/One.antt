@@ -17,7 +17,6 @@ use Rattle.fronius_meaning.specs.Reading.{IsReading}
 use Rattle.fronius_meaning.specs.declared.measured.Measured.{Measured}
 use Rattle.fronius_meaning.specs.declared.measured.Measured.TheVariants.{Thousandths, Refused}
 use Rattle.fronius_meaning.specs.declared.reading.Read.{Read}
-use Rattle.fronius_meaning.specs.declared.reading.Read.TheVariants as Read
 
 -- told alike is one: by the way back
 pub measured_alike : (a b : Measured) → Measured.told a ≡ Measured.told b → a ≡ b

@@ -19,9 +19,9 @@ module _ {A : Type 0} (s : List ℕ) (refused : Refusal → A) (given : A) where
   pub too_great_lem : length s ≡ 3 → too_great (exponent_of (exponent_byte s)) ≡ true → tested s refused given ≡ refused ExponentTooHigh
   too_great_lem h g = rw (eq-eqb (length s) 3 h, g)
 
-  pub too_small : length s ≡ 3 → too_great (exponent_of (exponent_byte s)) ≡ false → too_small (exponent_of (exponent_byte s)) ≡ true
+  pub too_small_lem : length s ≡ 3 → too_great (exponent_of (exponent_byte s)) ≡ false → too_small (exponent_of (exponent_byte s)) ≡ true
       → tested s refused given ≡ refused WrongAddressOrExponentTooLow
-  too_small h g l = rw (eq-eqb (length s) 3 h, g, l)
+  too_small_lem h g l = rw (eq-eqb (length s) 3 h, g, l)
 
   pub in_range_lem : length s ≡ 3 → too_great (exponent_of (exponent_byte s)) ≡ false → too_small (exponent_of (exponent_byte s)) ≡ false
       → tested s refused given ≡ given

@@ -1,7 +1,6 @@
 -- `reader::advance`: at each return the tests that led there pick the case of `advance_of`.
 use borrow.Author.Tests.{lt-ltb, le-ltb, eq-eqb, ne_eqb}
 use Rattle.fronius.specs.Machine.{advance_of}
-use borrow.Author.Rules.{rules}
 use Rattle.fronius.proofs.reader.advance.Goals as goal
 
 pub returns-then-b-eq-MARK : goal.returns-then-b-eq-MARK

@@ -1,7 +1,6 @@
 -- `reader::checksum_of`: the sum, modulo 256.
 use native.Mathlib.Omega.{arith}
 use Rattle.fronius.specs.Wire.{checksum}
-use borrow.Author.Rules.{rules}
 use Rattle.fronius.proofs.reader.checksum_of.Goals as goal
 
 pub returns : goal.returns

@@ -4,10 +4,9 @@ use Rattle.stream.proofs.LoopScans.{from_goes}
 use Rattle.fronius.specs.Machine.{filling, next}
 use Rattle.fronius.proofs.MachineMoves.{fill_more}
 use native.Mathlib.Omega.{arith}
-use Prim.Native.Nat.{ℕ, ◌+◌, ◌-◌, ◌≤◌}
-use mathlib.Core.Path.{◌≡◌, refl, ◌∙◌, ap}
-use lib.ListN.{length, get_or, set}
-use borrow.Author.Rules.{rules}
+use Prim.Native.Nat.{ℕ, ◌+◌}
+use mathlib.Core.Path.{refl, ◌∙◌, ap}
+use lib.ListN.{get_or, set}
 use Rattle.fronius.proofs.reader.fill.Goals as goal
 
 pub loop-i-init : goal.loop-i-init

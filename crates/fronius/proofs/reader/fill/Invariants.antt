@@ -1,14 +1,9 @@
 -- `reader::fill`: each byte copied is one that the machine keeps, so the call goes on from there.
-use lib.ListN.{length-set}
 use Rattle.stream.specs.Pieces.{scan_from}
-use Rattle.stream.proofs.LoopScans.{from_goes}
 use Rattle.fronius.specs.Machine.{filling, next}
-use Rattle.fronius.proofs.MachineMoves.{fill_more}
-use native.Mathlib.Omega.{arith}
-use Prim.Native.Nat.{ℕ, ◌+◌, ◌-◌, ◌≤◌}
-use mathlib.Core.Path.{◌≡◌, refl, ◌∙◌, ap}
-use lib.ListN.{length, get_or, set}
-use borrow.Author.Rules.{rules}
+use Prim.Native.Nat.{◌+◌, ◌-◌, ◌≤◌}
+use mathlib.Core.Path.{◌≡◌}
+use lib.ListN.{length}
 use Rattle.fronius.proofs.reader.fill.Given as goal
 
 abbrev pub invariant-loop-i : goal.invariant-loop-i

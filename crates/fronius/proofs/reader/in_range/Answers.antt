@@ -1,7 +1,6 @@
 -- `reader::in_range`: at each return the tests that led there pick the case of `inRange`.
 use borrow.Author.Tests.{le-leb, lt-leb, eq-eqb, ne_eqb}
 use Rattle.fronius.specs.Machine.{in_range}
-use borrow.Author.Rules.{rules}
 use Rattle.fronius.proofs.reader.in_range.Goals as goal
 
 pub returns-then-count-gt-STARTS : goal.returns-then-count-gt-STARTS

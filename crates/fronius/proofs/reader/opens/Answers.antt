@@ -1,5 +1,4 @@
 -- `reader::opens`: false where a test fails; at the end every test has held.
-use borrow.Author.Rules.{rules}
 use Rattle.fronius.proofs.StageRanges.{false_true}
 use Rattle.fronius.proofs.reader.opens.Goals as goal
 

@@ -1,98 +1,71 @@
 -- `reader::step_in_place`: spoilt, no room, or the scan that `run_in` made, judged and delivered.
--- the state put together, and whether it is whole, as it was tested
-use mathlib.Core.List.{List}
+use Rattle.std.proofs.Common.{◌≡◌, ℕ, Bool, true, List, length, refl, sym, ap, ◌∙◌, arith}
+use mathlib.Core.Bool.{◌&&◌}
 use lib.Dec.{eqb}
 use Rattle.stream.specs.Event.{outcome}
-use Rattle.stream.specs.Call.{lent_least}
 use Rattle.stream.proofs.PromiseOfStep.{shows, steps_spoilt, steps_no_room, steps_scan}
 use Rattle.stream.proofs.InPlaceIsStep.{whole_full, whole_sound}
 use Rattle.fronius.specs.Machine.{held_max, holding, next}
+use Rattle.fronius.specs.Machine as Machine
 use Rattle.fronius.specs.Reader.{in_range, whole, header, number, told, shown}
 use Rattle.fronius.specs.Inside.{event_of}
 use Rattle.fronius.specs.declared.reader.Reader.{Reader}
 use Rattle.fronius.specs.declared.reader.Answer.TheVariants.{Refused}
 use Rattle.answers.specs.declared.Refusal.TheVariants.{NoRoom, Spoilt}
 use Rattle.fronius.proofs.JudgedIsDelivered.{DeliveredBy, number_told, delivers}
-use native.Mathlib.Omega.{arith}
-use Prim.Native.Nat.{ℕ, ◌≤◌}
-use mathlib.Core.Path.{◌≡◌, refl, sym, ◌∙◌, ap}
-use mathlib.Core.Bool.{Bool, true, ◌&&◌}
-use lib.ListN.{length}
-use borrow.Author.Tests.{not-true, not-false}
-use borrow.Author.Rules.{rules}
+use Rattle.fronius.proofs.reader.step_in_place.Goals.{Else-not-whole, After-judge-answer}
 use Rattle.fronius.proofs.reader.step_in_place.Goals as goal
 
-abbrev begun : goal.After-in_range → goal.Start
-begun c = c.before.before.before.before
+-- whether the state put together is whole, as it was tested
+tested : (stage count len : ℕ) (held : List ℕ) (t : Bool) → t ≡ Machine.in_range stage count len → whole (holding stage count len held) ≡ (eqb (length held) held_max && t)
+tested stage count len held t e = ap (λ (b : Bool). eqb (length held) held_max && b) (sym e)
 
-abbrev state : goal.Start → Reader
-state c = holding c.args.stage c.args.count c.args.len c.args.held.now
+is_whole : (c : Else-not-whole) → whole (holding c.args.stage c.args.count c.args.len c.args.held.now) ≡ true
+is_whole c = tested _ _ _ c.args.held.now _ c.in_range.ensures ∙ c.if-not-whole.false
 
-tested : (c : goal.After-in_range) → whole (state (begun c)) ≡ (eqb (length (begun c).args.held.now) held_max && c.in_range_lem.result)
-tested c = ap (λ (b : Bool). eqb (length (begun c).args.held.now) held_max && b) (sym c.in_range_lem.ensures)
+all_there : (c : Else-not-whole) → (length c.args.held.now ≡ held_max) × (in_range (holding c.args.stage c.args.count c.args.len c.args.held.now) ≡ true)
+all_there c = whole_sound (λ s. s.held) held_max in_range (holding c.args.stage c.args.count c.args.len c.args.held.now) (is_whole c)
 
-is_whole : (c : goal.Else-not-whole) → whole (state (begun c.before)) ≡ true
-is_whole c = tested c.before ∙ not-false _ c.if-not-whole.false
-
-all_there : (c : goal.Else-not-whole) → (length (begun c.before).args.held.now ≡ held_max) × (in_range (state (begun c.before)) ≡ true)
-all_there c = whole_sound (λ s. s.held-1) held_max in_range (state (begun c.before)) (is_whole c)
-
--- where a run has ended: the start of the call, what the run left in the held bytes, and the state after it
-abbrev start : goal.After-run_in-ran → goal.Start
-start c = begun c.before.before.before.before
-
-abbrev held : goal.After-run_in-ran → List ℕ
-held c = c.run_in-ran.new.held.1.1.0
-
-abbrev after : goal.After-run_in-ran → Reader
-after c = holding c.run_in-ran.result.stage c.run_in-ran.result.count c.run_in-ran.result.len (held c)
-
-full : (c : goal.After-run_in-ran) → length (held c) ≡ held_max
-full c = c.run_in-ran.ensures.sized ∙ (all_there c.before.before.before).0
-
-room : (c : goal.After-run_in-ran) → lent_least ≤ length (start c).args.lent.now
-room c = omega (arith, c.if-lent-lt-LENT.false)
-
--- the run a judged answer came from, and what it delivers
-abbrev ran : goal.After-judge-answer → goal.After-run_in-ran
-ran c = c.before.before.before
-
-judged : (c : goal.After-judge-answer) → DeliveredBy c.judge-answer.result (event_of (ran c).run_in-ran.result.end (held (ran c))) (held (ran c)) (start (ran c)).args.lent.now
-judged c = delivers (ran c).run_in-ran.result.end (held (ran c)) (start (ran c)).args.lent.now c.judge-answer.result (ran c).run_in-ran.ensures.fits (full (ran c)) c.judge-answer.ensures
+-- what the run leaves in the held bytes is judged, and delivered
+judged : (c : After-judge-answer) → length c.run_in-ran.new.held ≡ held_max
+    → DeliveredBy c.judge-answer.result (event_of c.run_in-ran.result.end c.run_in-ran.new.held) c.run_in-ran.new.held c.args.lent.now
+judged c full = delivers c.run_in-ran.result.end c.run_in-ran.new.held c.args.lent.now c.judge-answer.result c.run_in-ran.ensures.fits full c.judge-answer.ensures
 
 pub returns-then-not-whole : goal.returns-then-not-whole
 returns-then-not-whole c =
-    let s = begun c.before in
-    let a = s.args in
-    steps_spoilt next whole header (λ m. m.payload) shown (state s) a.piece.now a.lent-1.now (record { reader = state s; answer = Refused Spoilt; used = 0 }) (tested c.before ∙ not-true _ c.if-not-whole.true) refl
+    let a = c.args in
+    let s = holding a.stage a.count a.len a.held.now in
+    steps_spoilt next whole header (λ m. m.payload) shown s a.piece.now a.lent.now (record { reader = s; answer = Refused Spoilt; used = 0 })
+    (tested _ _ _ a.held.now _ c.in_range.ensures ∙ c.if-not-whole.true) refl
 
 pub returns-then-lent-lt-LENT : goal.returns-then-lent-lt-LENT
 returns-then-lent-lt-LENT c =
-    let s = begun c.before.before in
-    let a = s.args in
-    steps_no_room next whole header (λ m. m.payload) shown (state s) a.piece.now a.lent-1.now (record { reader = state s; answer = Refused NoRoom; used = 0 }) (is_whole c.before) (omega arith) refl
+    let a = c.args in
+    let s = holding a.stage a.count a.len a.held.now in
+    steps_no_room next whole header (λ m. m.payload) shown s a.piece.now a.lent.now (record { reader = s; answer = Refused NoRoom; used = 0 })
+    (is_whole (goal.at.returns-then-lent-lt-LENT c).Else-not-whole) (omega arith) refl
 
 pub run_in-ran-requires : goal.run_in-ran-requires
-run_in-ran-requires c = let h = all_there c.before.before in (h.1, h.0)
+run_in-ran-requires c = let h = all_there (goal.at.run_in-ran-requires c).Else-not-whole in (h.1, h.0)
 
 pub judge-answer-requires : goal.judge-answer-requires
-judge-answer-requires c =
-    let r = c.before.before in
-    (r.run_in-ran.ensures.fits, full r)
+judge-answer-requires c = (c.run_in-ran.ensures.fits, c.run_in-ran.ensures.sized ∙ (all_there (goal.at.judge-answer-requires c).Else-not-whole).0)
 
 pub deliver-requires : goal.deliver-requires
 deliver-requires c =
-    let k = c.before in
-    ((judged k).0, (judged k).1, room (ran k))
+    let full = c.run_in-ran.ensures.sized ∙ (all_there (goal.at.deliver-requires c).Else-not-whole).0 in
+    let j = judged (goal.at.deliver-requires c).After-judge-answer full in
+    (j.0, j.1, omega arith)
 
 pub returns : goal.returns
 returns c =
-    let d = c in
-    let k = d.before.before.before.before in
-    let r = ran k in
-    let s = start r in
-    let a = s.args in
-    steps_scan next whole header (λ m. m.payload) shown (state s) a.piece.now a.lent-1.now _ (record { reader = after r; answer = k.judge-answer.result; used = r.run_in-ran.result.used }) _ (is_whole r.before.before.before) (room r) r.run_in-ran.ensures.scanned
-    (shows header (after r) (number k.judge-answer.result) (told k.judge-answer.result) (outcome (event_of r.run_in-ran.result.end (held r))) r.run_in-ran.result.used (number_told k.judge-answer.result) k.judge-answer.ensures)
-    (d.deliver.ensures ∙ (judged k).2)
-    (whole_full (λ (t : Reader). t.held-1) held_max in_range (after r) (full r) ∙ r.run_in-ran.ensures.ranged)
+    let w = (goal.at.returns c).Else-not-whole in
+    let r = c.run_in-ran in
+    let full : length r.new.held ≡ held_max = r.ensures.sized ∙ (all_there w).0 in
+    let a = c.args in
+    let after = holding r.result.stage r.result.count r.result.len r.new.held in
+    let said = c.judge-answer.result in
+    steps_scan next whole header (λ m. m.payload) shown (holding a.stage a.count a.len a.held.now) a.piece.now a.lent.now _ (record { reader = after; answer = said; used = r.result.used }) _ (is_whole w) (omega arith) r.ensures.scanned
+    (shows header after (number said) (told said) (outcome (event_of r.result.end r.new.held)) r.result.used (number_told said) c.judge-answer.ensures)
+    (c.deliver.ensures ∙ (judged (goal.at.returns c).After-judge-answer full).2)
+    (whole_full (λ (t : Reader). t.held) held_max in_range after full ∙ r.ensures.ranged)

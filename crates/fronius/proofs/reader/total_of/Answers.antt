@@ -1,20 +1,19 @@
 use Rattle.numbers.specs.Lists.{total}
 use Rattle.fronius.proofs.MachineMoves.{total_more}
 use native.Mathlib.Omega.{arith}
-use Prim.Native.Nat.{ℕ, ◌-◌, ◌%◌, ◌≤◌}
+use Prim.Native.Nat.{ℕ, ◌%◌}
 use mathlib.Core.Path.{◌≡◌, refl, ◌∙◌, ap}
 use lib.ListN.{take}
-use borrow.Author.Rules.{rules}
 use Rattle.fronius.proofs.reader.total_of.Goals as goal
 
 pub loop-i-init : goal.loop-i-init
 loop-i-init c = (omega arith, refl)
 
 pub overflow_cast-sum-in-loop-i : goal.overflow_cast-sum-in-loop-i
-overflow_cast-sum-in-loop-i c = omega (arith, c.shared_slice_known-1.given c.loop-i.i)
+overflow_cast-sum-in-loop-i c = omega (arith, c.type_inv.s c.loop-i.i)
 
 pub overflow_add-sum : goal.overflow_add-sum
-overflow_add-sum c = omega (arith, c.shared_slice_known-1.given c.loop-i.i)
+overflow_add-sum c = omega (arith, c.type_inv.s c.loop-i.i)
 
 pub loop-i-preserved : goal.loop-i-preserved
 loop-i-preserved c =

@@ -1,11 +1,8 @@
 -- `reader::total_of`: the sum so far is that of the bytes passed, modulo 256.
 use Rattle.numbers.specs.Lists.{total}
-use Rattle.fronius.proofs.MachineMoves.{total_more}
-use native.Mathlib.Omega.{arith}
-use Prim.Native.Nat.{ℕ, ◌-◌, ◌%◌, ◌≤◌}
-use mathlib.Core.Path.{◌≡◌, refl, ◌∙◌, ap}
+use Prim.Native.Nat.{◌-◌, ◌%◌, ◌≤◌}
+use mathlib.Core.Path.{◌≡◌}
 use lib.ListN.{take}
-use borrow.Author.Rules.{rules}
 use Rattle.fronius.proofs.reader.total_of.Given as goal
 
 abbrev pub invariant-loop-i : goal.invariant-loop-i

@@ -7,26 +7,24 @@ use Rattle.fronius.specs.Slice.{known_at, shown}
 use Rattle.fronius.specs.declared.reader.Answer.TheVariants.{Refused}
 use native.Mathlib.Omega.{arith}
 use mathlib.Core.Path.{refl}
-use borrow.Author.Rules.{rules}
 use Rattle.fronius.proofs.slice.answer_at.Goals as goal
 
 pub returns-then-slice-gt-SLICE : goal.returns-then-slice-gt-SLICE
 returns-then-slice-gt-SLICE c =
     let a = c.args in
-    answers_too_long rule known_at header (λ m. m.payload) shown a.slice.now a.lent-1.now a.place (record { answer = Refused SliceTooLong; place = 0 }) (omega arith) refl
+    answers_too_long rule known_at header (λ m. m.payload) shown a.slice.now a.lent.now a.place (record { answer = Refused SliceTooLong; place = 0 }) (omega arith) refl
 
 pub returns-then-slice-place : goal.returns-then-slice-place
 returns-then-slice-place c =
     let a = c.args in
-    answers_past_end rule known_at header (λ m. m.payload) shown a.slice.now a.lent-1.now a.place (record { answer = Refused PlacePastEnd; place = 0 }) (omega arith) (omega arith) refl
+    answers_past_end rule known_at header (λ m. m.payload) shown a.slice.now a.lent.now a.place (record { answer = Refused PlacePastEnd; place = 0 }) (omega arith) (omega arith) refl
 
 pub returns-then-lent-lt-LENT : goal.returns-then-lent-lt-LENT
 returns-then-lent-lt-LENT c =
     let a = c.args in
-    answers_no_room rule known_at header (λ m. m.payload) shown a.slice.now a.lent-1.now a.place (record { answer = Refused NoRoom; place = 0 }) (omega arith) (omega arith) (omega arith) refl
+    answers_no_room rule known_at header (λ m. m.payload) shown a.slice.now a.lent.now a.place (record { answer = Refused NoRoom; place = 0 }) (omega arith) (omega arith) (omega arith) refl
 
 pub returns : goal.returns
 returns c =
-    let f = c in
-    let a = f.args in
-    answers_rule rule known_at header (λ m. m.payload) shown a.slice.now a.lent-1.now _ a.place f.answer_from.result _ (omega arith) (omega arith) (omega arith) refl f.answer_from.ensures.0 f.answer_from.ensures.1
+    let a = c.args in
+    answers_rule rule known_at header (λ m. m.payload) shown a.slice.now a.lent.now _ a.place c.answer_from.result _ (omega arith) (omega arith) (omega arith) refl c.answer_from.ensures.0 c.answer_from.ensures.1

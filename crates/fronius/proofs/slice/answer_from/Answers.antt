@@ -1,7 +1,6 @@
 -- `slice::answer_from`: what is found from the place on is what is found from the length on.
 use Rattle.fronius.proofs.FoundIsAnswered.{answers_from}
 use native.Mathlib.Omega.{arith}
-use borrow.Author.Rules.{rules}
 use Rattle.fronius.proofs.slice.answer_from.Goals as goal
 
 pub overflow_add-start : goal.overflow_add-start
@@ -14,7 +13,5 @@ frame_at-requires c =
 
 pub returns : goal.returns
 returns c =
-    let f = c in
-    let p = f in
-    let a = p.args in
-    answers_from a.slice.now a.lent-1.now _ a.place p.start_from-start.result p.past_marks-at.result f.frame_at.result p.start_from-start.ensures p.past_marks-at.ensures f.frame_at.ensures
+    let a = c.args in
+    answers_from a.slice.now a.lent.now _ a.place c.start_from-start.result c.past_marks-at.result c.frame_at.result c.start_from-start.ensures c.past_marks-at.ensures c.frame_at.ensures

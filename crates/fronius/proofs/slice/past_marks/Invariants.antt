@@ -1,9 +1,7 @@
 -- `slice::past_marks`: an 80 where a length comes is passed over, so what is found is found behind it.
-use Rattle.fronius.proofs.FoundFromPlace.{past_end, Passed, passed_from, passed_on}
-use native.Mathlib.Omega.{arith}
+use Rattle.fronius.proofs.FoundFromPlace.{Passed}
 use Prim.Native.Nat.{◌-◌, ◌≤◌}
 use lib.ListN.{length}
-use borrow.Author.Rules.{rules}
 use Rattle.fronius.proofs.slice.past_marks.Given as goal
 
 abbrev pub invariant-loop-at : goal.invariant-loop-at

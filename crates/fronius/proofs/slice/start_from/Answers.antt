@@ -1,8 +1,5 @@
-use Rattle.fronius.proofs.FoundFromPlace.{Searched, searched_from, searched_on, start_found, no_start}
+use Rattle.fronius.proofs.FoundFromPlace.{searched_from, searched_on, start_found, no_start}
 use native.Mathlib.Omega.{arith}
-use Prim.Native.Nat.{◌-◌, ◌≤◌}
-use lib.ListN.{length}
-use borrow.Author.Rules.{rules}
 use Rattle.fronius.proofs.slice.start_from.Goals as goal
 
 pub loop-i-init : goal.loop-i-init
@@ -10,18 +7,15 @@ loop-i-init c = (omega arith, omega arith, searched_from c.args.slice.now c.args
 
 pub returns-then-slice-i : goal.returns-then-slice-i
 returns-then-slice-i c =
-    let at = c in
-    let a = at.args in
-    start_found a.slice.now a.from at.loop-i.i (omega arith) (omega arith) c.if-slice-i.true at.loop-i.invariant.2
+    let a = c.args in
+    start_found a.slice.now a.from c.loop-i.i (omega arith) (omega arith) c.if-slice-i.true c.loop-i.invariant.2
 
 pub loop-i-preserved : goal.loop-i-preserved
 loop-i-preserved c =
-    let at = c in
-    let a = at.args in
-    (omega arith, omega arith, searched_on a.slice.now a.from at.loop-i.i (omega arith) (omega arith) c.if-slice-i.false at.loop-i.invariant.2)
+    let a = c.args in
+    (omega arith, omega arith, searched_on a.slice.now a.from c.loop-i.i (omega arith) (omega arith) c.if-slice-i.false c.loop-i.invariant.2)
 
 pub returns : goal.returns
 returns c =
-    let at = c in
-    let a = at.args in
-    no_start a.slice.now a.from at.loop-i.i (omega arith) (omega arith) (omega arith) at.loop-i.invariant.2
+    let a = c.args in
+    no_start a.slice.now a.from c.loop-i.i (omega arith) (omega arith) (omega arith) c.loop-i.invariant.2
