@@ -2,7 +2,6 @@
 use mathlib.Core.Path.{sym, ◌∙◌}
 use borrow.Author.Tests.{lt-ltb, le-ltb, eq-eqb, ne_eqb}
 use Rattle.drives.specs.Machine.{advance_of}
-use borrow.Author.Rules.{rules}
 use Rattle.drives.proofs.reader.advance.Goals as goal
 
 pub returns-then-opens : goal.returns-then-opens

@@ -1,5 +1,4 @@
 -- `reader::agrees`: the sum over the held characters is that over those that came.
--- of the held characters the first `count` came
 use Rattle.drives.specs.Wire.{checksum, hex_digit}
 use Rattle.drives.specs.Rules.{agrees}
 use native.Mathlib.Nat.{sub-zero}
@@ -11,9 +10,9 @@ use mathlib.Core.List.{List}
 use lib.ListN.{length, take, get_or}
 use lib.Seq.{get_or-take, length-take-le, take-take}
 use lib.Dec.{eqb}
-use borrow.Author.Rules.{rules}
 use Rattle.drives.proofs.reader.agrees.Goals as goal
 
+-- of the held characters the first `count` came
 held_agrees : (count : ℕ) (held : List ℕ) → 2 ≤ count → count ≤ length held
     → (let k = count - 2 in
     let sum = checksum (take k held) in

@@ -1,15 +1,15 @@
 use Rattle.drives.specs.Wire.{is_hex, all_hex}
 use native.Mathlib.Numerals.{add-one}
 use native.Mathlib.Omega.{arith}
-use Prim.Native.Nat.{ℕ, ◌+◌, ◌-◌, ◌≤◌, ◌<◌}
+use Prim.Native.Nat.{ℕ, ◌+◌, ◌<◌}
 use mathlib.Core.Path.{◌≡◌, refl, sym, ◌∙◌, ap}
 use mathlib.Core.Bool.{Bool, ◌&&◌, and_assoc, and-true}
 use mathlib.Core.List.{List}
 use lib.ListN.{length, drop, get_or}
 use lib.Seq.{drop-cons, drop-length}
-use borrow.Author.Rules.{rules}
 use Rattle.drives.proofs.reader.all_hex.Goals as goal
 
+-- one more character passed
 passed : (s : List ℕ) (i : ℕ) (good : Bool) → i < length s → (good && is_hex (get_or s i 0)) && all_hex (drop (i + 1) s) ≡ good && all_hex (drop i s)
 passed s i good lt = rw (drop-cons s i 0 lt, add-one i) (and_assoc good _ _)
 

@@ -1,15 +1,9 @@
 -- `reader::all_hex`: the characters passed are good, and those left are in the set, where all are.
--- one more character passed
-use Rattle.drives.specs.Wire.{is_hex, all_hex}
-use native.Mathlib.Numerals.{add-one}
-use native.Mathlib.Omega.{arith}
-use Prim.Native.Nat.{ℕ, ◌+◌, ◌-◌, ◌≤◌, ◌<◌}
-use mathlib.Core.Path.{◌≡◌, refl, sym, ◌∙◌, ap}
-use mathlib.Core.Bool.{Bool, ◌&&◌, and_assoc, and-true}
-use mathlib.Core.List.{List}
-use lib.ListN.{length, drop, get_or}
-use lib.Seq.{drop-cons, drop-length}
-use borrow.Author.Rules.{rules}
+use Rattle.drives.specs.Wire.{all_hex}
+use Prim.Native.Nat.{◌-◌, ◌≤◌}
+use mathlib.Core.Path.{◌≡◌}
+use mathlib.Core.Bool.{◌&&◌}
+use lib.ListN.{length, drop}
 use Rattle.drives.proofs.reader.all_hex.Given as goal
 
 abbrev pub invariant-loop-i : goal.invariant-loop-i

@@ -1,15 +1,8 @@
 -- `reader::checksum_of`: the sum so far and the characters left add up to that of all, modulo 256.
--- one more character added
 use Rattle.numbers.specs.Lists.{total}
-use Rattle.drives.specs.Wire.{checksum}
-use native.Mathlib.Numerals.{add-one}
-use native.Mathlib.Omega.{arith}
-use Prim.Native.Nat.{ℕ, ◌+◌, ◌-◌, ◌%◌, ◌≤◌, ◌<◌}
+use Prim.Native.Nat.{◌+◌, ◌-◌, ◌%◌, ◌≤◌, ◌<◌}
 use mathlib.Core.Path.{◌≡◌}
-use mathlib.Core.List.{List}
-use lib.ListN.{length, drop, get_or}
-use lib.Seq.{drop-cons, drop-length}
-use borrow.Author.Rules.{rules}
+use lib.ListN.{length, drop}
 use Rattle.drives.proofs.reader.checksum_of.Given as goal
 
 abbrev pub invariant-loop-i : goal.invariant-loop-i

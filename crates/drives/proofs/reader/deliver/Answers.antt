@@ -1,48 +1,57 @@
 -- `reader::deliver`: the part of the held bytes that is the data goes to the front of the buffer.
-use lib.ListN.{length, length-take, length-drop}
-use Rattle.stream.proofs.ListLaws.{part_front}
 use Rattle.drives.specs.Inside.{Small, There, given}
 use Rattle.drives.specs.declared.reader.Answer.{Answer}
 use native.Mathlib.Omega.{arith}
-use Prim.Native.Nat.{◌+◌, ◌≤◌}
-use mathlib.Core.Path.{sym, ◌∙◌, ap, subst}
-use borrow.Author.Rules.{rules}
+use Prim.Native.Nat.{ℕ, ◌+◌, ◌-◌, ◌≤◌}
+use mathlib.Core.Path.{◌≡◌, sym, ◌∙◌, ap, subst}
+use mathlib.Core.List.{List, ◌++◌}
+use lib.ListN.{length, take, drop, length-take, length-drop}
 use Rattle.drives.proofs.reader.deliver.Goals as goal
 
-small_at : (c : goal.In-Message-2) → c.answer-1.given.0.0.len ≤ 37
-small_at c = subst Small c.answer-1.given.1 c.requires.0
-
-there_at : (c : goal.In-Message-2) → 3 + c.answer-1.given.0.0.len ≤ length c.args.held.now
-there_at c = subst (λ (x : Answer). There x c.args.held.now) c.answer-1.given.1 c.requires.1
+-- the data are as long as they are told to be, so the buffer goes on behind them
+front : (h l : List ℕ) (n : ℕ) → 3 + n ≤ length h → take (3 + n - 3) (drop 3 h) ++ drop n l ≡ take n (drop 3 h) ++ drop (length (take n (drop 3 h))) l
+front h l n room =
+    let e : 3 + n - 3 ≡ n = omega arith in
+    let k : length (take n (drop 3 h)) ≡ n = simp (length-take, length-drop) (omega arith) in
+    rw (e, k)
 
 pub overflow_add-end : goal.overflow_add-end
-overflow_add-end c = omega (arith, small_at c.before)
+overflow_add-end c = omega (arith, subst Small c.in-Message.is c.requires.0)
 
-pub slice-bounds-copy-end : goal.slice-bounds-copy-end
-slice-bounds-copy-end c = omega (arith, there_at c.before)
+pub slice_bounds-copy_from_slice-end-in-Message : goal.slice_bounds-copy_from_slice-end-in-Message
+slice_bounds-copy_from_slice-end-in-Message c = let s = subst Small c.in-Message.is c.requires.0 in simp length-take (omega arith)
 
-pub copy-requires : goal.copy-requires
-copy-requires c = simp (length-take, length-drop) (omega (arith, small_at c.before.before.before))
+pub slice_bounds-copy_from_slice-end-in-Message-2 : goal.slice_bounds-copy_from_slice-end-in-Message-2
+slice_bounds-copy_from_slice-end-in-Message-2 c = subst (λ (x : Answer). There x c.args.held.now) c.in-Message.is c.requires.1
+
+pub slice_bounds-copy_from_slice-end : goal.slice_bounds-copy_from_slice-end
+slice_bounds-copy_from_slice-end c = omega (arith, subst Small c.in-Message.is c.requires.0)
+
+pub copy_from_slice-requires : goal.copy_from_slice-requires
+copy_from_slice-requires c =
+    let s = subst Small c.in-Message.is c.requires.0 in
+    let t = subst (λ (x : Answer). There x c.args.held.now) c.in-Message.is c.requires.1 in
+    simp (length-take, length-drop) (omega arith)
 
 pub returns-in-Message : goal.returns-in-Message
 returns-in-Message c =
-    let k = c in
-    let a = k.args in
-    let n = k.answer-1.given.0.0.len in
-    c.copy.ensures.1 ∙ part_front a.held.now a.lent-1.now 3 n
-    ∙ ap (λ (x : Answer). given x a.held.now a.lent-1.now) (sym k.answer-1.given.1)
+    let a = c.args in
+    let n = c.in-Message.h.len in
+    ap (λ (x : List ℕ). x ++ drop n a.lent.now) c.copy_from_slice.ensures.after
+    ∙ front a.held.now a.lent.now n (subst (λ (x : Answer). There x a.held.now) c.in-Message.is c.requires.1)
+    ∙ ap (λ (x : Answer). given x a.held.now a.lent.now) (sym c.in-Message.is)
 
 pub returns-in-Done : goal.returns-in-Done
 returns-in-Done c =
     let a = c.args in
-    ap (λ (x : Answer). given x a.held.now a.lent-1.now) (sym c.enum_told-1.given.1)
+    ap (λ (x : Answer). given x a.held.now a.lent.now) (sym c.in-Done.is)
 
 pub returns-in-Damaged : goal.returns-in-Damaged
 returns-in-Damaged c =
     let a = c.args in
-    ap (λ (x : Answer). given x a.held.now a.lent-1.now) (sym c.enum_told-in-Damaged-1.given.1)
+    ap (λ (x : Answer). given x a.held.now a.lent.now) (sym c.in-Damaged.is)
 
 pub returns-in-Refused : goal.returns-in-Refused
 returns-in-Refused c =
     let a = c.args in
-    ap (λ (x : Answer). given x a.held.now a.lent-1.now) (sym c.enum_told-in-Refused-1.given.1)
+    ap (λ (x : Answer). given x a.held.now a.lent.now) (sym c.in-Refused.is)

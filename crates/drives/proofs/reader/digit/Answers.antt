@@ -1,7 +1,6 @@
 -- `reader::digit`: by whether it is below ten.
 use Rattle.drives.specs.Wire.{hex_digit}
 use borrow.Author.Tests.{lt-ltb, le-ltb}
-use borrow.Author.Rules.{rules}
 use Rattle.drives.proofs.reader.digit.Goals as goal
 
 pub returns-then-n-lt10 : goal.returns-then-n-lt10

@@ -1,9 +1,5 @@
-use Rattle.drives.specs.Inside.{Filled}
 use Rattle.drives.proofs.FillScans.{filled_none, filled_more}
 use native.Mathlib.Omega.{arith}
-use Prim.Native.Nat.{◌+◌, ◌-◌, ◌≤◌}
-use mathlib.Core.Path.{◌≡◌}
-use borrow.Author.Rules.{rules}
 use Rattle.drives.proofs.reader.fill.Goals as goal
 
 pub loop-i-init : goal.loop-i-init

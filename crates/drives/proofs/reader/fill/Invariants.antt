@@ -1,10 +1,7 @@
 -- `reader::fill`: each character taken in is one that the machine keeps, so the call goes on from there.
 use Rattle.drives.specs.Inside.{Filled}
-use Rattle.drives.proofs.FillScans.{filled_none, filled_more}
-use native.Mathlib.Omega.{arith}
 use Prim.Native.Nat.{◌+◌, ◌-◌, ◌≤◌}
 use mathlib.Core.Path.{◌≡◌}
-use borrow.Author.Rules.{rules}
 use Rattle.drives.proofs.reader.fill.Given as goal
 
 abbrev pub invariant-loop-i : goal.invariant-loop-i

@@ -8,19 +8,18 @@ use Rattle.drives.specs.declared.reader.End.{End}
 use native.Mathlib.Omega.{arith}
 use Prim.Native.Nat.{◌≤◌}
 use mathlib.Core.Path.{sym, ◌∙◌, ap, subst}
-use borrow.Author.Rules.{rules}
 use Rattle.drives.proofs.reader.judge.Goals as goal
 
 pub judge_frame-requires : goal.judge_frame-requires
 judge_frame-requires c =
     let p = c.requires in
-    let fits : c.end-1.given.0.1.0 ≤ count_max = subst Fits c.end-1.given.1 p.0 in
+    let fits : c.in-Closed.count ≤ count_max = subst Fits c.in-Closed.is p.0 in
     (fits, omega (arith, p.1))
 
 pub returns-in-UsedUp : goal.returns-in-UsedUp
-returns-in-UsedUp c = ap (λ (e : End). retold header (outcome (event_of e c.args.held.now))) (sym c.enum_told-1.given.1)
+returns-in-UsedUp c = ap (λ (e : End). retold header (outcome (event_of e c.args.held.now))) (sym c.in-UsedUp.is)
 
 pub returns-in-Closed : goal.returns-in-Closed
 returns-in-Closed c =
     c.judge_frame.ensures
-    ∙ ap (λ (e : End). retold header (outcome (event_of e c.args.held.now))) (sym c.end-1.given.1)
+    ∙ ap (λ (e : End). retold header (outcome (event_of e c.args.held.now))) (sym c.in-Closed.is)

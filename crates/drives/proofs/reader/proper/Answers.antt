@@ -1,5 +1,4 @@
 -- `reader::proper`: what is tested of the held characters is what the sets ask of those that came.
--- of the held characters the first `count` came
 use Rattle.drives.specs.Wire.{is_hex, all_hex, is_letter, proper}
 use Rattle.drives.proofs.JudgedIsDelivered.{behind_letter}
 use native.Mathlib.Omega.{arith}
@@ -9,9 +8,9 @@ use mathlib.Core.Bool.{◌&&◌, and_assoc}
 use mathlib.Core.List.{List}
 use lib.ListN.{take, drop, get_or}
 use lib.Seq.{get_or-take}
-use borrow.Author.Rules.{rules}
 use Rattle.drives.proofs.reader.proper.Goals as goal
 
+-- of the held characters the first `count` came
 held_proper : (count : ℕ) (held : List ℕ) → 3 ≤ count
     → ((is_hex (get_or held 0 0) && is_hex (get_or held 1 0)) && is_letter (get_or held 2 0)) && all_hex (take (count - 3) (drop 3 held)) ≡ proper (take count held)
 unfolding proper

@@ -1,5 +1,4 @@
 -- `slice::answer_from`: what the two searches come to is what the rule finds.
--- ---- an answer for what the rule finds
 use mathlib.Core.Option.{Option, none, some}
 use mathlib.Core.List.{List}
 use Rattle.stream.specs.Event.{Event, Told, gives}
@@ -22,8 +21,9 @@ use native.Mathlib.Omega.{arith}
 use Prim.Native.Nat.{ℕ, ◌+◌, ◌-◌, ◌≤◌}
 use mathlib.Core.Path.{◌≡◌, refl, sym, ◌∙◌, ap, subst}
 use lib.ListN.{length, get_or, drop}
-use borrow.Author.Rules.{rules}
 use Rattle.drives.proofs.slice.answer_from.Goals as goal
+
+-- ---- an answer for what the rule finds
 
 by_rule : (s lent later : List ℕ) (place : ℕ) (r : Found) (o : Option (Settled (Event Message))) → rule tt (drop place s) ≡ o
     → shown r ≡ retells header (answered place (length s) o) → later ≡ delivered (λ (m : Message). m.payload) (answered place (length s) o).told lent
@@ -50,33 +50,22 @@ by_frame s came lent later place end opening a le e f =
     (told_as a (gives (judge opening came)) (end + 1) f.0 ∙ ap (λ (k : ℕ). retells header (asked_of (gives (judge opening came)) k)) at)
     f.1
 
--- ---- where both searches have ended: the start of the call, and the indices that they found
-abbrev begun : goal.After-eot_from-end → goal.Start
-begun c = c.before.before.before.before
-
-abbrev first : goal.After-eot_from-end → ℕ
-first c = c.opening_from-first.result
-
-abbrev end : goal.After-eot_from-end → ℕ
-end c = c.eot_from-end.result
-
+-- ---- where both searches have ended: what the call was given, and the indices that they found
 pub returns-then-slice-end : goal.returns-then-slice-end
 returns-then-slice-end c =
-    let k = c.before in
-    let a = (begun k).args in
-    by_nothing a.slice.now a.lent-1.now a.place
-    (nothing_found a.slice.now a.place (first k) (end k) k.opening_from-first.ensures k.eot_from-end.ensures (omega arith))
+    let a = c.args in
+    by_nothing a.slice.now a.lent.now a.place
+    (nothing_found a.slice.now a.place c.opening_from-first.result c.eot_from-end.result c.opening_from-first.ensures c.eot_from-end.ensures (omega arith))
 
 pub returns : goal.returns
 returns c =
-    let d = c in
-    let e = d in
-    let k = e.before.before.before.before.before.before.before in
-    let a = (begun k).args in
+    let a = c.args in
     let s = a.slice.now in
-    let opening = k.opening_from-first.ensures in
-    let ending = k.eot_from-end.ensures in
-    by_frame s (between s a.place (first k) (end k) opening ending) a.lent-1.now _ a.place (end k) (get_or s (first k) 0) d.read_frame-answer.result
+    let first = c.opening_from-first.result in
+    let end = c.eot_from-end.result in
+    let opening = c.opening_from-first.ensures in
+    let ending = c.eot_from-end.ensures in
+    by_frame s (between s a.place first end opening ending) a.lent.now _ a.place end (get_or s first 0) c.read_frame-answer.result
     (omega (arith, opening.forward, ending.forward))
-    (frame_found s a.place (first k) (end k) opening ending (omega arith))
-    d.read_frame-answer.ensures
+    (frame_found s a.place first end opening ending (omega arith))
+    c.read_frame-answer.ensures

@@ -1,11 +1,9 @@
 use Rattle.drives.specs.Rules.{within}
 use Rattle.drives.proofs.RuleInSlice.{within_passed}
 use native.Mathlib.Omega.{arith}
-use Prim.Native.Nat.{ℕ, ◌+◌, ◌-◌, ◌≤◌}
+use Prim.Native.Nat.{ℕ, ◌+◌, ◌-◌}
 use mathlib.Core.Path.{◌≡◌, ◌∙◌, ap₂}
-use mathlib.Core.List.{[]}
-use lib.ListN.{length, take, drop}
-use borrow.Author.Rules.{rules}
+use lib.ListN.{take, drop}
 use Rattle.drives.proofs.slice.eot_from.Goals as goal
 
 pub loop-i-init : goal.loop-i-init

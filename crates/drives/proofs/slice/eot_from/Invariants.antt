@@ -1,12 +1,9 @@
 -- `slice::eot_from`: the bytes passed are characters of the frame, so the rule goes on from there.
 use Rattle.drives.specs.Rules.{within}
-use Rattle.drives.proofs.RuleInSlice.{within_passed}
-use native.Mathlib.Omega.{arith}
 use Prim.Native.Nat.{ℕ, ◌+◌, ◌-◌, ◌≤◌}
-use mathlib.Core.Path.{◌≡◌, ◌∙◌, ap₂}
+use mathlib.Core.Path.{◌≡◌}
 use mathlib.Core.List.{[]}
 use lib.ListN.{length, take, drop}
-use borrow.Author.Rules.{rules}
 use Rattle.drives.proofs.slice.eot_from.Given as goal
 
 abbrev pub invariant-loop-i : goal.invariant-loop-i

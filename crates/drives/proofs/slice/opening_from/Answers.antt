@@ -1,18 +1,10 @@
 use Rattle.drives.specs.Rules.{sought}
 use Rattle.drives.proofs.RuleInSlice.{sought_passed, sought_opened, sought_ends}
 use native.Mathlib.Omega.{arith}
-use Prim.Native.Nat.{ℕ, ◌+◌, ◌-◌, ◌≤◌}
+use Prim.Native.Nat.{ℕ, ◌+◌, ◌-◌}
 use mathlib.Core.Path.{◌≡◌, sym, ◌∙◌, ap}
-use lib.ListN.{length, get_or, drop}
-use borrow.Author.Rules.{rules}
+use lib.ListN.{get_or, drop}
 use Rattle.drives.proofs.slice.opening_from.Goals as goal
-
--- where a byte was looked at: the loop's place, and the start of the call
-abbrev at : goal.After-opens → goal.At-loop-i
-at c = c.before.before.before
-
-abbrev begun : goal.At-loop-i → goal.Start
-begun c = c.before.before
 
 pub loop-i-init : goal.loop-i-init
 loop-i-init c =
@@ -22,8 +14,8 @@ loop-i-init c =
 
 pub loop-i-preserved : goal.loop-i-preserved
 loop-i-preserved c =
-    let l = (at c.before).loop-i in
-    let a = (begun (at c.before)).args in
+    let l = c.loop-i in
+    let a = c.args in
     let more : l.i - a.from + 1 ≡ l.i + 1 - a.from = omega arith in (
       omega arith,
       omega arith,
@@ -35,7 +27,7 @@ loop-i-preserved c =
 pub returns-after-loop-i : goal.returns-after-loop-i
 returns-after-loop-i c =
     let l = c.loop-i in
-    let a = (begun c.before).args in
+    let a = c.args in
     record {
       forward = l.invariant.0;
       fits = l.invariant.1;
@@ -44,8 +36,8 @@ returns-after-loop-i c =
 
 pub returns-then-opens : goal.returns-then-opens
 returns-then-opens c =
-    let l = (at c.before).loop-i in
-    let a = (begun (at c.before)).args in
+    let l = c.loop-i in
+    let a = c.args in
     record {
       forward = l.invariant.0;
       fits = l.invariant.1;

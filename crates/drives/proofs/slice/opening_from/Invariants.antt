@@ -1,11 +1,8 @@
 -- `slice::opening_from`: the bytes passed open no frame, so the rule goes on from there.
 use Rattle.drives.specs.Rules.{sought}
-use Rattle.drives.proofs.RuleInSlice.{sought_passed, sought_opened, sought_ends}
-use native.Mathlib.Omega.{arith}
-use Prim.Native.Nat.{ℕ, ◌+◌, ◌-◌, ◌≤◌}
-use mathlib.Core.Path.{◌≡◌, sym, ◌∙◌, ap}
-use lib.ListN.{length, get_or, drop}
-use borrow.Author.Rules.{rules}
+use Prim.Native.Nat.{◌-◌, ◌≤◌}
+use mathlib.Core.Path.{◌≡◌}
+use lib.ListN.{length, drop}
 use Rattle.drives.proofs.slice.opening_from.Given as goal
 
 abbrev pub invariant-loop-i : goal.invariant-loop-i

@@ -1,7 +1,6 @@
 -- `writer::put_lead`: four stores.
 use native.Mathlib.Omega.{arith}
 use lib.ListN.{length-set}
-use borrow.Author.Rules.{rules}
 use Rattle.drives.proofs.writer.put_lead.Goals as goal
 
 pub bounds-lent-1 : goal.bounds-lent-1
