@@ -26,8 +26,8 @@ loop-i-preserved c =
     let from = c.args.from in
     let one : i - from + 1 ≡ i + 1 - from = omega arith in
     let missed : marks s i ≡ false = elim c.else-slice-i.branch [
-      else-slice-i-via-then-slice-i+else-slice-i-eq-SECOND_MARK w ↦ rw (eq-eqb _ _ w.if-slice-i.true, ne_eqb _ _ w.if-slice-i-eq-SECOND_MARK.false)
-    | else-slice-i-via-else-slice-i w ↦ rw (ne_eqb _ _ w.if-slice-i.false)
+      | else-slice-i-via-then-slice-i+else-slice-i-eq-SECOND_MARK w ↦ rw (eq-eqb _ _ w.if-slice-i.true, ne_eqb _ _ w.if-slice-i-eq-SECOND_MARK.false)
+      | else-slice-i-via-else-slice-i w ↦ rw (ne_eqb _ _ w.if-slice-i.false)
     ] in (
       omega arith,
       omega arith,
