@@ -1,5 +1,5 @@
 -- Eversolar on the wire: AA 55, source, destination, control, function, length N, N data bytes, two checksum bytes.
-use Rattle.std.specs.Prelude.{ℕ, ◌+◌, ◌%◌, ◌≤◌, ◌<◌, List, [], ◌∷◌, ◌++◌, length, get_or, T}
+use Rattle.std.specs.Prelude.{ℕ, ◌%◌, ◌≤◌, ◌<◌, List, [], ◌∷◌, ◌++◌, length, get_or, T}
 use Rattle.std.proofs.Math.Pow.{are_bytes}
 use Rattle.numbers.specs.Lists.{total}
 use Rattle.eversolar_words.specs.Words.{word_bytes}

@@ -4,7 +4,6 @@ use Rattle.eversolar.proofs.MachineMoves.{total_earlier}
 use native.Mathlib.Omega.{arith}
 use mathlib.Core.Path.{ap}
 use lib.ListN.{take, drop}
-use borrow.Author.Rules.{rules}
 use Rattle.eversolar.proofs.reader.checksum_of.Goals as goal
 
 pub returns : goal.returns

@@ -1,12 +1,11 @@
-use lib.ListN.{length-set, length, get_or, set}
+use lib.ListN.{length-set, get_or, set}
 use Rattle.stream.specs.Pieces.{scan_from}
 use Rattle.stream.proofs.LoopScans.{from_goes}
 use Rattle.eversolar.specs.Machine.{holding, next}
 use Rattle.eversolar.proofs.MachineMoves.{keep_more}
 use native.Mathlib.Omega.{arith}
-use Prim.Native.Nat.{ℕ, ◌+◌, ◌-◌, ◌≤◌}
-use mathlib.Core.Path.{◌≡◌, refl, ◌∙◌, ap}
-use borrow.Author.Rules.{rules}
+use Prim.Native.Nat.{ℕ, ◌+◌}
+use mathlib.Core.Path.{refl, ◌∙◌, ap}
 use Rattle.eversolar.proofs.reader.fill.Goals as goal
 
 pub loop-i-init : goal.loop-i-init

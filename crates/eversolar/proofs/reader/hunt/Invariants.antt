@@ -1,14 +1,9 @@
 use mathlib.Core.List.{List}
-use borrow.Author.Tests.{eq-eqb, ne_eqb}
 use Rattle.stream.specs.Pieces.{scan_from}
-use Rattle.stream.proofs.LoopScans.{from_goes}
-use Rattle.eversolar.specs.Machine.{holding, looked_of, next}
-use Rattle.eversolar.proofs.MachineMoves.{look_on}
-use native.Mathlib.Omega.{arith}
-use Prim.Native.Nat.{ℕ, ◌+◌, ◌-◌, ◌<◌, ◌≤◌}
-use mathlib.Core.Path.{◌≡◌, refl, ◌∙◌, ap}
-use lib.ListN.{length, get_or}
-use borrow.Author.Rules.{rules}
+use Rattle.eversolar.specs.Machine.{holding, next}
+use Prim.Native.Nat.{ℕ, ◌-◌, ◌<◌, ◌≤◌}
+use mathlib.Core.Path.{◌≡◌}
+use lib.ListN.{length}
 use Rattle.eversolar.proofs.reader.hunt.Given as goal
 
 abbrev pub invariant-loop-i : goal.invariant-loop-i

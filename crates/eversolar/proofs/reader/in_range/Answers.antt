@@ -1,6 +1,5 @@
 use borrow.Author.Tests.{lt-ltb, le-ltb, le-leb, lt-leb, eq-eqb, ne_eqb}
 use Rattle.eversolar.specs.Machine.{in_range}
-use borrow.Author.Rules.{rules}
 use Rattle.eversolar.proofs.reader.in_range.Goals as goal
 
 pub returns-then-count-ne0 : goal.returns-then-count-ne0

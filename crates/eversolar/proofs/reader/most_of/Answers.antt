@@ -1,7 +1,6 @@
 use borrow.Author.Tests.{eq-eqb, ne_eqb}
 use Rattle.eversolar.specs.Machine.{most}
 use native.Mathlib.Omega.{arith}
-use borrow.Author.Rules.{rules}
 use Rattle.eversolar.proofs.reader.most_of.Goals as goal
 
 pub returns-then-stage-eq-IN_LEAD : goal.returns-then-stage-eq-IN_LEAD

@@ -1,23 +1,9 @@
-use mathlib.Core.Path.{subst, ◌≡◌, refl, sym, ◌∙◌, ap}
-use mathlib.Core.Option.{none, some}
-use mathlib.Core.List.{List}
-use lib.ListN.{length-set, length, get_or}
-use borrow.Author.Tests.{le-ltb}
-use Rattle.stream.specs.Event.{Event}
-use Rattle.stream.specs.Pieces.{Called, scan, scan_from}
-use Rattle.stream.proofs.LoopScans.{from_start, from_goes, from_tells, from_end}
-use Rattle.eversolar.specs.Wire.{Message}
-use Rattle.eversolar.specs.Machine.{holding, moved, next}
-use Rattle.eversolar.specs.Inside.{Hunted}
-use Rattle.eversolar.specs.declared.reader.Reader.{Reader}
-use Rattle.eversolar.specs.declared.reader.HuntEnd.{HuntEnd}
-use Rattle.eversolar.specs.declared.reader.HuntEnd.TheVariants.{Found, End as AtEnd}
-use Rattle.eversolar.specs.declared.reader.Move.{Move}
-use Rattle.eversolar.specs.declared.reader.Move.TheVariants.{Keep, Size, Close}
-use Rattle.eversolar.proofs.StageRanges.{Range, look, lead, body, range_of, in_range_lem, range_len, range_idle, most_small, keeps_range, Asked, asked}
-use native.Mathlib.Omega.{arith}
-use Prim.Native.Nat.{ℕ, ◌+◌, ◌-◌, ◌<◌, ◌≤◌}
-use borrow.Author.Rules.{rules}
+use mathlib.Core.Path.{◌≡◌}
+use lib.ListN.{length}
+use Rattle.stream.specs.Pieces.{scan, scan_from}
+use Rattle.eversolar.specs.Machine.{holding, next}
+use Rattle.eversolar.proofs.StageRanges.{Range}
+use Prim.Native.Nat.{◌-◌, ◌≤◌}
 use Rattle.eversolar.proofs.reader.run_in.Given as goal
 
 abbrev pub invariant-loop-i : goal.invariant-loop-i

@@ -1,99 +1,43 @@
--- the state put together, and whether it is whole, as it was tested
-use mathlib.Core.List.{List}
-use lib.Dec.{eqb}
-use Rattle.stream.specs.Event.{outcome}
-use Rattle.stream.specs.Call.{lent_least, delivered}
-use Rattle.stream.proofs.PromiseOfStep.{shows, steps_spoilt, steps_no_room, steps_scan}
-use Rattle.stream.proofs.InPlaceIsStep.{whole_full, whole_sound}
-use Rattle.eversolar.specs.Wire.{Message}
-use Rattle.eversolar.specs.Machine.{held_max, holding, next}
-use Rattle.eversolar.specs.Reader.{in_range, whole, header, number, told, shown}
-use Rattle.eversolar.specs.Inside.{event_of, Small, There, given}
-use Rattle.eversolar.specs.declared.reader.Reader.{Reader}
-use Rattle.eversolar.specs.declared.reader.Answer.TheVariants.{Refused}
-use Rattle.answers.specs.declared.Refusal.TheVariants.{NoRoom, Spoilt}
-use Rattle.eversolar.proofs.JudgedIsDelivered.{number_told, delivers}
-use native.Mathlib.Omega.{arith}
-use Prim.Native.Nat.{ℕ, ◌≤◌}
-use mathlib.Core.Path.{◌≡◌, refl, sym, ◌∙◌, ap}
+-- the state put together is whole, as it was tested; what is judged of the run's end is delivered
+use mathlib.Core.Path.{◌≡◌, sym, ◌∙◌, ap}
 use mathlib.Core.Bool.{Bool, true, ◌&&◌}
 use lib.ListN.{length}
-use borrow.Author.Tests.{not-true, not-false}
-use borrow.Author.Rules.{rules}
+use lib.Dec.{eqb}
+use native.Mathlib.Omega.{arith}
+use Rattle.stream.specs.Event.{outcome}
+use Rattle.stream.proofs.PromiseOfStep.{shows, steps_scan}
+use Rattle.stream.proofs.InPlaceIsStep.{whole_full, whole_sound}
+use Rattle.eversolar.specs.Machine.{held_max, holding, next}
+use Rattle.eversolar.specs.Reader.{in_range, whole, header, number, told, shown}
+use Rattle.eversolar.specs.Inside.{event_of}
+use Rattle.eversolar.specs.declared.reader.Reader.{Reader}
+use Rattle.eversolar.proofs.JudgedIsDelivered.{number_told, delivers}
 use Rattle.eversolar.proofs.reader.step_in_place.Goals as goal
-
-abbrev begun : goal.After-in_range → goal.Start
-begun c = c.before.before.before.before
-
-abbrev state : goal.Start → Reader
-state c = holding c.args.stage c.args.count c.args.len c.args.held.now
-
-tested : (c : goal.After-in_range) → whole (state (begun c)) ≡ (eqb (length (begun c).args.held.now) held_max && c.in_range_lem.result)
-tested c = ap (λ (b : Bool). eqb (length (begun c).args.held.now) held_max && b) (sym c.in_range_lem.ensures)
-
-is_whole : (c : goal.Else-not-whole) → whole (state (begun c.before)) ≡ true
-is_whole c = tested c.before ∙ not-false _ c.if-not-whole.false
-
-all_there : (c : goal.Else-not-whole) → (length (begun c.before).args.held.now ≡ held_max) × (in_range (state (begun c.before)) ≡ true)
-all_there c = whole_sound (λ s. s.held-1) held_max in_range (state (begun c.before)) (is_whole c)
-
--- where a run has ended: the start of the call, what the run left in the held bytes, and the state after it
-abbrev start : goal.After-run_in-ran → goal.Start
-start c = begun c.before.before.before.before
-
-abbrev held : goal.After-run_in-ran → List ℕ
-held c = c.run_in-ran.new.held.1.1.0
-
-abbrev after : goal.After-run_in-ran → Reader
-after c = holding c.run_in-ran.result.stage c.run_in-ran.result.count c.run_in-ran.result.len (held c)
-
-full : (c : goal.After-run_in-ran) → length (held c) ≡ held_max
-full c = c.run_in-ran.ensures.sized ∙ (all_there c.before.before.before).0
-
-room : (c : goal.After-run_in-ran) → lent_least ≤ length (start c).args.lent.now
-room c = omega (arith, c.if-lent-lt-LENT.false)
-
--- the run a judged answer came from, and what it delivers
-abbrev ran : goal.After-judge-answer → goal.After-run_in-ran
-ran c = c.before.before.before
-
-judged : (c : goal.After-judge-answer) → Small c.judge-answer.result × There c.judge-answer.result (held (ran c))
-    × (given c.judge-answer.result (held (ran c)) (start (ran c)).args.lent.now ≡ delivered (λ (m : Message). m.payload) (outcome (event_of (ran c).run_in-ran.result.end (held (ran c)))) (start (ran c)).args.lent.now)
-judged c = delivers (ran c).run_in-ran.result.end (held (ran c)) (start (ran c)).args.lent.now c.judge-answer.result (ran c).run_in-ran.ensures.fits (full (ran c)) c.judge-answer.ensures
-
-pub returns-then-not-whole : goal.returns-then-not-whole
-returns-then-not-whole c =
-    let s = begun c.before in
-    let a = s.args in
-    steps_spoilt next whole header (λ m. m.payload) shown (state s) a.piece.now a.lent-1.now (record { reader = state s; answer = Refused Spoilt; used = 0 }) (tested c.before ∙ not-true _ c.if-not-whole.true) refl
-
-pub returns-then-lent-lt-LENT : goal.returns-then-lent-lt-LENT
-returns-then-lent-lt-LENT c =
-    let s = begun c.before.before in
-    let a = s.args in
-    steps_no_room next whole header (λ m. m.payload) shown (state s) a.piece.now a.lent-1.now (record { reader = state s; answer = Refused NoRoom; used = 0 }) (is_whole c.before) (omega arith) refl
-
-pub run_in-ran-requires : goal.run_in-ran-requires
-run_in-ran-requires c = let h = all_there c.before.before in (h.1, h.0)
-
-pub judge-answer-requires : goal.judge-answer-requires
-judge-answer-requires c =
-    let r = c.before.before in
-    (r.run_in-ran.ensures.fits, full r)
 
 pub deliver-requires : goal.deliver-requires
 deliver-requires c =
-    let k = c.before in
-    ((judged k).0, (judged k).1, room (ran k))
+    let a = c.args in
+    let state : Reader = holding a.stage a.count a.len a.held.now in
+    let is_whole : whole state ≡ true = ap (λ (b : Bool). eqb (length a.held.now) held_max && b) (sym c.in_range.ensures) ∙ c.if-not-whole.false in
+    let all_there = whole_sound (λ (s : Reader). s.held) held_max in_range state is_whole in
+    let held = c.run_in-ran.new.held in
+    let full : length held ≡ held_max = c.run_in-ran.ensures.sized ∙ all_there.0 in
+    let judged = delivers c.run_in-ran.result.end held a.lent.now c.judge-answer.result c.run_in-ran.ensures.fits full c.judge-answer.ensures in
+    (judged.0, judged.1, omega (arith, c.if-lent-lt-LENT.false))
 
 pub returns : goal.returns
 returns c =
-    let d = c in
-    let k = d.before.before.before.before in
-    let r = ran k in
-    let s = start r in
-    let a = s.args in
-    steps_scan next whole header (λ m. m.payload) shown (state s) a.piece.now a.lent-1.now _ (record { reader = after r; answer = k.judge-answer.result; used = r.run_in-ran.result.used }) _ (is_whole r.before.before.before) (room r) r.run_in-ran.ensures.scanned
-    (shows header (after r) (number k.judge-answer.result) (told k.judge-answer.result) (outcome (event_of r.run_in-ran.result.end (held r))) r.run_in-ran.result.used (number_told k.judge-answer.result) k.judge-answer.ensures)
-    (d.deliver.ensures ∙ (judged k).2)
-    (whole_full (λ (t : Reader). t.held-1) held_max in_range (after r) (full r) ∙ r.run_in-ran.ensures.ranged)
+    let a = c.args in
+    let state : Reader = holding a.stage a.count a.len a.held.now in
+    let is_whole : whole state ≡ true = ap (λ (b : Bool). eqb (length a.held.now) held_max && b) (sym c.in_range.ensures) ∙ c.if-not-whole.false in
+    let all_there = whole_sound (λ (s : Reader). s.held) held_max in_range state is_whole in
+    let held = c.run_in-ran.new.held in
+    let ran = c.run_in-ran.result in
+    let full : length held ≡ held_max = c.run_in-ran.ensures.sized ∙ all_there.0 in
+    let after : Reader = holding ran.stage ran.count ran.len held in
+    let answer = c.judge-answer.result in
+    let judged = delivers ran.end held a.lent.now answer c.run_in-ran.ensures.fits full c.judge-answer.ensures in
+    steps_scan next whole header (λ m. m.payload) shown state a.piece.now a.lent.now _ (record { reader = after; answer = answer; used = ran.used }) _ is_whole (omega (arith, c.if-lent-lt-LENT.false)) c.run_in-ran.ensures.scanned
+    (shows header after (number answer) (told answer) (outcome (event_of ran.end held)) ran.used (number_told answer) c.judge-answer.ensures)
+    (c.deliver.ensures ∙ judged.2)
+    (whole_full (λ (s : Reader). s.held) held_max in_range after full ∙ c.run_in-ran.ensures.ranged)

@@ -1,11 +1,7 @@
-use lib.ListN.{length-drop, get_or, take, drop}
-use lib.Seq.{get_or-drop}
+use lib.ListN.{take, drop}
 use Rattle.numbers.specs.Lists.{total}
-use Rattle.eversolar.proofs.MachineMoves.{total_more}
-use native.Mathlib.Omega.{arith}
-use Prim.Native.Nat.{ℕ, ◌+◌, ◌*◌, ◌-◌, ◌<◌, ◌≤◌}
-use mathlib.Core.Path.{◌≡◌, refl, ◌∙◌, ap}
-use borrow.Author.Rules.{rules}
+use Prim.Native.Nat.{◌*◌, ◌-◌, ◌≤◌}
+use mathlib.Core.Path.{◌≡◌}
 use Rattle.eversolar.proofs.reader.total_of.Given as goal
 
 abbrev pub invariant-loop-i : goal.invariant-loop-i

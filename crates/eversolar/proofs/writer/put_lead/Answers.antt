@@ -1,6 +1,5 @@
 use native.Mathlib.Omega.{arith}
 use lib.ListN.{length-set}
-use borrow.Author.Rules.{rules}
 use Rattle.eversolar.proofs.writer.put_lead.Goals as goal
 
 pub bounds-lent-1 : goal.bounds-lent-1

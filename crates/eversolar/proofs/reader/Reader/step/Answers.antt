@@ -1,19 +1,15 @@
 -- the reader's own held bytes are all there
-use Prim.Native.Nat.{ℕ}
-use mathlib.Core.Path.{◌≡◌, sym, ◌∙◌}
-use lib.ListN.{length, length-map}
+use mathlib.Core.Path.{◌≡◌}
+use lib.ListN.{length}
+use native.Mathlib.Omega.{arith}
 use Rattle.stream.proofs.InPlaceIsStep.{in_place_is_step}
 use Rattle.eversolar.specs.Machine.{held_max, next}
 use Rattle.eversolar.specs.Reader.{in_range, header, shown, together}
-use borrow.Author.Rules.{rules}
+use Rattle.eversolar.specs.declared.reader.Reader.{Reader}
 use Rattle.eversolar.proofs.reader.Reader.step.Goals as goal
-
-full_at : (c : goal.Start) → length c.args.self.held ≡ held_max
-full_at c = sym (length-map c.args.self.held (λ (v : ℕ). v)) ∙ c.well-formed.0.1.1.0.1.0.1
 
 pub returns : goal.returns
 returns c =
-    let g = c in
-    let s = g.before.before.before.before.before.before.before.before.before in
-    let a = s.args in
-    in_place_is_step (λ r. r.held-1) held_max in_range next header (λ m. m.payload) shown a.self a.piece.now a.lent-1.now _ (together _ g.step_in_place-s.result) (full_at s) g.step_in_place-s.ensures
+    let a = c.args in
+    let full : length a.self.held ≡ held_max = omega arith in
+    in_place_is_step (λ (s : Reader). s.held) held_max in_range next header (λ m. m.payload) shown a.self a.piece.now a.lent.now _ (together c.step_in_place-s.new.held c.step_in_place-s.result) full c.step_in_place-s.ensures
