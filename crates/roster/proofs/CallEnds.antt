@@ -18,7 +18,6 @@ use Rattle.roster.specs.Calls.{IsGiven, IsRemoved, IsFound}
 use Rattle.roster.specs.Inside.{IsGivenSound}
 use Rattle.roster.specs.declared.Place.{Place}
 use Rattle.roster.specs.declared.Given.{Given}
-use Rattle.roster.specs.declared.Given.TheVariants as Given
 use Rattle.roster.specs.declared.Removed.TheVariants as Removed
 use Rattle.roster.specs.declared.Found.TheVariants as Found
 use Rattle.roster.proofs.PlacesInBytes.{bytes_places, count_places}

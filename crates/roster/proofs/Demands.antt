@@ -17,9 +17,7 @@ use Rattle.roster.specs.Calls.{told_given, IsGiven, IsRemoved}
 use Rattle.roster.specs.Demands.{fresh_roster, GivenIsFound, GivenTwice, LowestFree, RemovedIsGiven, Fills, addresses_from, RemovedIsGone, OthersStay, OnlyOnePlace, NeverSpoilt, StaysWellFormed, Kept}
 use Rattle.roster.specs.declared.Place.{Place}
 use Rattle.roster.specs.declared.Given.{Given}
-use Rattle.roster.specs.declared.Given.TheVariants as Given
 use Rattle.roster.specs.declared.Removed.{Removed}
-use Rattle.roster.specs.declared.Removed.TheVariants as Removed
 use Rattle.roster.specs.declared.Found.TheVariants as Found
 use Rattle.roster.proofs.PlacesInBytes.{bytes_places, places_bytes}
 use Rattle.roster.proofs.SoundTest.{Fine, not_spoilt, fine, sound_whole}

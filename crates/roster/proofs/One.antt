@@ -9,11 +9,8 @@ use Rattle.numbers.proofs.Alike.{alike_by_back}
 use Rattle.answers.proofs.NumbersHaveCases.{heard, heard_refused}
 use Rattle.roster.specs.Calls.{told_given, told_removed, told_found, AddressNotZero, IsGiven, IsRemoved, IsFound}
 use Rattle.roster.specs.declared.Given.{Given}
-use Rattle.roster.specs.declared.Given.TheVariants as Given
 use Rattle.roster.specs.declared.Removed.{Removed}
-use Rattle.roster.specs.declared.Removed.TheVariants as Removed
 use Rattle.roster.specs.declared.Found.{Found}
-use Rattle.roster.specs.declared.Found.TheVariants as Found
 
 -- ---- told alike is one: by the way back
 

@@ -2,12 +2,12 @@
 -- Assumes nothing.
 use Prim.Native.Nat.{ℕ, zero, suc, ◌+◌, ◌*◌, ◌-◌, ◌≤◌, ◌<◌}
 use mathlib.Core.Path.{◌≡◌, refl, sym, ap, ◌∙◌}
-use mathlib.Core.List.{List, [], ◌∷◌, ◌++◌, append-nil, append_assoc}
+use mathlib.Core.List.{List, [], ◌∷◌, ◌++◌, append_assoc}
 use native.Mathlib.Nat.{add-zero, not-suc-le-zero, le_refl}
 use native.Mathlib.Numerals.{add-one}
 use native.Mathlib.Omega.{arith}
-use lib.ListN.{length, get_or, set, take, drop, length-append, length-drop, take-append-drop, drop_of_length-le}
-use lib.Seq.{drop-cons, drop-drop, drop-nil, take-nil, take-add, take_all, take_at, take-length, drop_at, set_split, take-suc-set, drop-set-lt, append_snoc, get_or-drop, length-take-le}
+use lib.ListN.{length, get_or, set, take, drop, length-append, length-drop, take-append-drop}
+use lib.Seq.{drop-cons, drop-drop, drop-nil, take-nil, take-add, take_at, drop_at, set_split, take-suc-set, drop-set-lt, append_snoc, get_or-drop, length-take-le}
 use borrow.Rule.Slice.PartMut.{put_mid}
 use Rattle.roster.specs.Roster.{places, serial_size}
 use Rattle.roster.specs.Bytes.{place_size, roster_size, places_up_to, places_of, bytes_of, Whole}
@@ -142,27 +142,17 @@ set_length b k p e l s =
     ∙ ap (λ (n : ℕ). length (take a b) + suc n) (length-append p.serial (drop (a + place_size) b))
     ∙ omega arith
 
--- src copied to the front of `&mut l[at..]`
-pasted : (l m src : List ℕ) (at : ℕ) → m ≡ take (length src) src ++ drop (length src) (take (length l - at) (drop at l))
-    → put_mid at (length l - at) l m ≡ take at l ++ (src ++ drop (at + length src) l)
-pasted l m src at e =
-    let all : take (length l - at) (drop at l) ≡ drop at l = take_all (length l - at) (drop at l) (simp length-drop (le_refl _)) in
-    let nothing : drop (length l - at) (drop at l) ≡ [] = drop_of_length-le (drop at l) {i = length l - at} (simp length-drop (le_refl _)) in
-    simp (nothing, append-nil, e, all, drop-drop, take-length)
-
 -- the mark stored and the serial copied behind it make place k that one
-pub place_put : (b m : List ℕ) (k : ℕ) (p : Place) → length b ≡ roster_size → k < places → length p.serial ≡ serial_size
-    → (let l : List ℕ = set b (k * place_size) p.mark in
-    let at : ℕ = k * place_size + 1 in
-    m ≡ take (length p.serial) p.serial ++ drop (length p.serial) (take (length l - at) (drop at l))
-    → put_mid at (length l - at) l m ≡ bytes_of (set (places_of b) k p))
-place_put b m k p e kl sl q =
+pub place_put : (b m : List ℕ) (k n : ℕ) (p : Place) → length b ≡ roster_size → k < places → length p.serial ≡ serial_size → n ≡ serial_size → m ≡ p.serial
+    → put_mid (k * place_size + 1) n (set b (k * place_size) p.mark) m ≡ bytes_of (set (places_of b) k p)
+place_put b m k n p e kl sl nl q =
     let a : ℕ = k * place_size in
     let l : List ℕ = set b a p.mark in
     let front : take (a + 1) l ≡ take a b ++ (p.mark ∷ []) = rw (add-one a) (take-suc-set b a p.mark (omega arith)) in
-    let ends : a + 1 + length p.serial ≡ a + place_size = omega arith in
-    let back : drop (a + 1 + length p.serial) l ≡ drop (a + place_size) b = ap (λ (n : ℕ). drop n l) ends ∙ drop-set-lt (a + place_size) b a p.mark (omega arith) in
-    pasted l m p.serial (a + 1) q
+    let ends : a + 1 + n ≡ a + place_size = omega arith in
+    let back : drop n (drop (a + 1) l) ≡ drop (a + place_size) b =
+    drop-drop n (a + 1) l ∙ ap (λ (w : ℕ). drop w l) ends ∙ drop-set-lt (a + place_size) b a p.mark (omega arith) in
+    ap (λ (r : List ℕ). take (a + 1) l ++ (r ++ drop n (drop (a + 1) l))) q
     ∙ ap (λ (r : List ℕ). take (a + 1) l ++ (p.serial ++ r)) back
     ∙ ap (λ (r : List ℕ). r ++ (p.serial ++ drop (a + place_size) b)) front
     ∙ append_snoc (take a b) p.mark (p.serial ++ drop (a + place_size) b)

@@ -5,11 +5,8 @@ use Rattle.answers.specs.Refusal.{refused}
 use Rattle.roster.specs.Roster.{giving, removing, finding}
 use Rattle.roster.specs.Bytes.{places_of, bytes_of}
 use Rattle.roster.specs.declared.Given.{Given}
-use Rattle.roster.specs.declared.Given.TheVariants as Given
 use Rattle.roster.specs.declared.Removed.{Removed}
-use Rattle.roster.specs.declared.Removed.TheVariants as Removed
 use Rattle.roster.specs.declared.Found.{Found}
-use Rattle.roster.specs.declared.Found.TheVariants as Found
 
 abbrev pub told_given : Given → Answer
 told_given (Given.Address address) = answer 0 (address ∷ [])

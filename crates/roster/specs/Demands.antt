@@ -9,11 +9,8 @@ use Rattle.roster.specs.Bytes.{place_size, roster_size, places_of}
 use Rattle.roster.specs.Calls.{told_given, told_removed, told_found, IsGiven, IsRemoved, IsFound}
 use Rattle.roster.specs.declared.Place.{Place}
 use Rattle.roster.specs.declared.Given.{Given}
-use Rattle.roster.specs.declared.Given.TheVariants as Given
 use Rattle.roster.specs.declared.Removed.{Removed}
-use Rattle.roster.specs.declared.Removed.TheVariants as Removed
 use Rattle.roster.specs.declared.Found.{Found}
-use Rattle.roster.specs.declared.Found.TheVariants as Found
 
 -- Giving, then finding, gives that address.
 abbrev pub GivenIsFound : Type 0

@@ -1,6 +1,3 @@
-pub mod LendsShared
-pub mod LendsLocalArray
-pub mod PlacesByValue
 pub mod CopiesByByte
 pub mod PlansDecide
 pub mod One

@@ -16,16 +16,12 @@ use Rattle.roster.specs.Calls as Bytes
 use Rattle.roster.specs.Inside.{place_in}
 use Rattle.roster.specs.declared.Place.{Place}
 use Rattle.roster.specs.declared.Given.{Given}
-use Rattle.roster.specs.declared.Given.TheVariants as Given
 use Rattle.roster.specs.declared.Removed.{Removed}
-use Rattle.roster.specs.declared.Removed.TheVariants as Removed
 use Rattle.roster.specs.declared.Found.{Found}
-use Rattle.roster.specs.declared.Found.TheVariants as Found
 use Rattle.roster.proofs.PlacesInBytes.{places_bytes, whole_bytes, place_at}
 use Rattle.roster.proofs.SoundTest.{Fine, not_spoilt, sound_whole}
 use Rattle.roster.proofs.RosterRule.{first_found}
 use Rattle.roster.proofs.AnswerSays.{Gave, Giving, giving_of, gave_there, giving_refused, removing_refused, removing_of}
-use Rattle.roster_places.specs.Calls.{IsGiven, IsRemoved, IsFound}
 use Rattle.roster_places.specs.Inside.{PlansGive, PlansRemove, PlansFind}
 
 -- ---- another number of places

@@ -1,5 +1,5 @@
 // The roster over places that the caller holds by value: each call lends the array to the call over a slice, and hands it
-// back with the answer. A function that lends structs of its own is proved by hand: these are, so that who calls them need not be.
+// back with the answer.
 ghost use Rattle.roster_places.specs.Calls.{IsGiven, IsRemoved, IsFound};
 
 use crate::{find, give, remove};

@@ -88,7 +88,8 @@ fn gather(ps: &[Place]) -> [u8; ROSTER_SIZE]
     let other = free();
     let mut i = 0;
     while i < PLACES {
-        all = with(all, i, look(ps, i, other));
+        let next = with(all, i, look(ps, i, other));
+        all = next;
         i += 1;
     }
     all
@@ -189,7 +190,7 @@ fn plan_find(n: usize, all: [u8; ROSTER_SIZE], serial: &[u8]) -> Found
     roster::find(&all, serial)
 }
 
-// The answer that a plan has: a call of its own, so that the walk above it need not look into an enum.
+// The answer that a plan has.
 fn given_of(plan: GivePlan) -> Given
     ensures { result ≡ plan.given }
 {
