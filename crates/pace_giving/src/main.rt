@@ -2,8 +2,9 @@
 // roster. Prints the sum of what the calls told, and writes the roster as it is then.
 #![tactic(auto)]
 
-use libc::{STDIN_FILENO, STDOUT_FILENO};
 use roster::Given;
+use std::io::Stdout;
+use test_parts::{LARGE, read_full};
 
 // What is added to the number of a refusal, so that it is no address.
 const REFUSED: u64 = 1000;
@@ -27,19 +28,19 @@ fn given(all: &mut [u8], serial: &[u8], times: u8) -> u64 {
     sum
 }
 
-fn show(all: &mut [u8], serial: &[u8], times: u8) {
+fn show(out: Stdout, all: &mut [u8], serial: &[u8], times: u8) {
     let sum = given(all, serial, times);
-    io::print_decimal(STDOUT_FILENO, sum);
-    io::write_all(STDOUT_FILENO, b"\n");
-    io::write_all(STDOUT_FILENO, &*all);
+    let _ = print!(out; "{sum}");
+    let _ = out.write_all(b"\n");
+    let _ = out.write_all(&*all);
 }
 
-fn main() {
-    let mut input = io::large_buffer();
+fn main(rt: HostRuntime) {
+    let mut input = [0u8; LARGE];
     let mut first = [0u8; 1];
     let mut serial = [0u8; roster::SERIAL_SIZE];
-    io::read_full(STDIN_FILENO, &mut first);
-    io::read_full(STDIN_FILENO, &mut serial);
-    let n = io::read_full(STDIN_FILENO, &mut input);
-    show(&mut input[..n], &serial, first[0]);
+    read_full(&mut rt.stdin(), &mut first);
+    read_full(&mut rt.stdin(), &mut serial);
+    let n = read_full(&mut rt.stdin(), &mut input);
+    show(rt.stdout(), &mut input[..n], &serial, first[0]);
 }

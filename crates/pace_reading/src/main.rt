@@ -5,9 +5,9 @@
 
 ghost use Rattle.std.specs.Prelude.{◌≤◌, length};
 
-use libc::{STDIN_FILENO, STDOUT_FILENO};
 use numbers::{least, wide};
-use test_parts::{COMLYNX, DRIVES, EVERSOLAR, FRONIUS, word_at};
+use std::io::Stdout;
+use test_parts::{COMLYNX, DRIVES, EVERSOLAR, FRONIUS, LARGE, read_full, word_at};
 
 // Where the input has the family and how long a piece is. The frames stand behind them.
 const FAMILY: usize = 0;
@@ -247,26 +247,26 @@ fn piece_of(said: u16) -> usize {
     if said == 0 { WHOLE } else { said as usize }
 }
 
-fn print(n: u64, after: &[u8]) {
-    io::print_decimal(STDOUT_FILENO, n);
-    io::write_all(STDOUT_FILENO, after);
+fn print(out: Stdout, n: u64, after: &[u8]) {
+    let _ = print!(out; "{n}");
+    let _ = out.write_all(after);
 }
 
-fn show(family: u8, piece: usize, input: &[u8]) {
+fn show(out: Stdout, family: u8, piece: usize, input: &[u8]) {
     let mut lent = [0u8; LENT];
     let tally = tally_of(family, input, piece, &mut lent);
-    print(family as u64, b" ");
-    print(tally.messages, b" ");
-    print(tally.damages % HALF, b" ");
-    print(tally.damages / HALF, b" ");
-    print(tally.check, b"\n");
+    print(out, family as u64, b" ");
+    print(out, tally.messages, b" ");
+    print(out, tally.damages % HALF, b" ");
+    print(out, tally.damages / HALF, b" ");
+    print(out, tally.check, b"\n");
 }
 
-fn main() {
-    let mut input = io::large_buffer();
+fn main(rt: HostRuntime) {
+    let mut input = [0u8; LARGE];
     let mut first = [0u8; FRAMES];
-    io::read_full(STDIN_FILENO, &mut first);
-    let n = io::read_full(STDIN_FILENO, &mut input);
+    read_full(&mut rt.stdin(), &mut first);
+    let n = read_full(&mut rt.stdin(), &mut input);
     let piece = piece_of(word_at(&first, PIECE));
-    show(first[FAMILY], piece, &input[..n]);
+    show(rt.stdout(), first[FAMILY], piece, &input[..n]);
 }

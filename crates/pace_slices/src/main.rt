@@ -4,9 +4,9 @@
 
 ghost use Rattle.std.specs.Prelude.{◌≤◌, length};
 
-use libc::{STDIN_FILENO, STDOUT_FILENO};
 use numbers::{least, wide};
-use test_parts::{COMLYNX, DRIVES, EVERSOLAR, FRONIUS};
+use std::io::Stdout;
+use test_parts::{COMLYNX, DRIVES, EVERSOLAR, FRONIUS, LARGE, read_full};
 
 // Where the input has the family. How long a piece is stands behind it, and is of no use here; then come the frames.
 const FAMILY: usize = 0;
@@ -187,25 +187,25 @@ fn tally_of(family: u8, input: &[u8], lent: &mut [u8]) -> Tally {
     none()
 }
 
-fn print(n: u64, after: &[u8]) {
-    io::print_decimal(STDOUT_FILENO, n);
-    io::write_all(STDOUT_FILENO, after);
+fn print(out: Stdout, n: u64, after: &[u8]) {
+    let _ = print!(out; "{n}");
+    let _ = out.write_all(after);
 }
 
-fn show(family: u8, input: &[u8]) {
+fn show(out: Stdout, family: u8, input: &[u8]) {
     let mut lent = [0u8; LENT];
     let tally = tally_of(family, input, &mut lent);
-    print(family as u64, b" ");
-    print(tally.messages, b" ");
-    print(tally.damages % HALF, b" ");
-    print(tally.damages / HALF, b" ");
-    print(tally.check, b"\n");
+    print(out, family as u64, b" ");
+    print(out, tally.messages, b" ");
+    print(out, tally.damages % HALF, b" ");
+    print(out, tally.damages / HALF, b" ");
+    print(out, tally.check, b"\n");
 }
 
-fn main() {
-    let mut input = io::large_buffer();
+fn main(rt: HostRuntime) {
+    let mut input = [0u8; LARGE];
     let mut first = [0u8; FRAMES];
-    io::read_full(STDIN_FILENO, &mut first);
-    let n = io::read_full(STDIN_FILENO, &mut input);
-    show(first[FAMILY], &input[..n]);
+    read_full(&mut rt.stdin(), &mut first);
+    let n = read_full(&mut rt.stdin(), &mut input);
+    show(rt.stdout(), first[FAMILY], &input[..n]);
 }

@@ -4,9 +4,9 @@
 #![tactic(auto)]
 
 use answers::Written;
-use libc::{STDIN_FILENO, STDOUT_FILENO};
 use numbers::{least, wide};
-use test_parts::{COMLYNX, DRIVES, EVERSOLAR, FRONIUS, size_at, word_at};
+use std::io::Stdout;
+use test_parts::{COMLYNX, DRIVES, EVERSOLAR, FRONIUS, LARGE, read_full, size_at, word_at};
 
 // What is called where it is no family's writer.
 const CHECKSUM: u8 = 5;
@@ -141,26 +141,33 @@ fn sum_of(what: u8, times: u16, look: usize, bytes: &[u8], lent: &mut [u8]) -> u
     0
 }
 
-fn show(what: u8, times: u16, look: usize, bytes: &[u8], lent: &mut [u8]) {
+fn show(out: Stdout, what: u8, times: u16, look: usize, bytes: &[u8], lent: &mut [u8]) {
     let sum = sum_of(what, times, look, bytes, lent);
-    io::print_decimal(STDOUT_FILENO, sum as u64);
-    io::write_all(STDOUT_FILENO, b"\n");
-    io::write_all(STDOUT_FILENO, &*lent);
+    let _ = print!(out; "{sum}");
+    let _ = out.write_all(b"\n");
+    let _ = out.write_all(&*lent);
 }
 
 // Lends so much room, as far as there is.
-fn with_room(room: usize, what: u8, times: u16, look: usize, bytes: &[u8]) {
+fn with_room(out: Stdout, room: usize, what: u8, times: u16, look: usize, bytes: &[u8]) {
     let mut lent = [0u8; LENT];
     let room = least(room, LENT);
-    show(what, times, look, bytes, &mut lent[..room]);
+    show(out, what, times, look, bytes, &mut lent[..room]);
 }
 
-fn main() {
-    let mut input = io::large_buffer();
+fn main(rt: HostRuntime) {
+    let mut input = [0u8; LARGE];
     let mut first = [0u8; PAYLOAD];
-    io::read_full(STDIN_FILENO, &mut first);
-    let n = io::read_full(STDIN_FILENO, &mut input);
+    read_full(&mut rt.stdin(), &mut first);
+    let n = read_full(&mut rt.stdin(), &mut input);
     let times = word_at(&first, TIMES);
     let room = word_at(&first, ROOM) as usize;
-    with_room(room, first[CALLED], times, wide(first[LOOK]), &input[..n]);
+    with_room(
+        rt.stdout(),
+        room,
+        first[CALLED],
+        times,
+        wide(first[LOOK]),
+        &input[..n],
+    );
 }

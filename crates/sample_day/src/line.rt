@@ -34,7 +34,9 @@ fn noise(payload: &[u8], room: &mut [u8]) -> Written {
     if room.len() < payload.len() {
         return Written::Refused(Refusal::NoRoom);
     }
-    Written::Done(bytes::copy(payload, room))
+    let n = payload.len();
+    room[..n].copy_from_slice(payload);
+    Written::Done(n)
 }
 
 // Writes the message of a record by the writer of a family, or the bytes that nobody sent.

@@ -3,9 +3,9 @@
 // packet writer; then some bytes are changed, as a bad line changes them, so that each damage number comes up.
 #![tactic(auto)]
 
-use libc::{STDIN_FILENO, STDOUT_FILENO};
 use line::fill;
-use test_parts::{COMLYNX, DRIVES, EVERSOLAR, FRONIUS, further, part};
+use std::io::Stdout;
+use test_parts::{COMLYNX, DRIVES, EVERSOLAR, FRONIUS, LARGE, further, part, read_full};
 
 mod line;
 
@@ -19,44 +19,48 @@ const ROUNDS: usize = 60;
 // Room for a full packet.
 const PACKET: usize = 247;
 
+// Room for what a port's line carried.
+const LINE: usize = 4096;
+
 // Sends the next packet of a line. Answers where the one after it begins. Of an empty line there is no packet.
-fn send_next(port: u8, round: usize, line: &[u8], from: usize) -> usize {
+fn send_next(out: Stdout, port: u8, round: usize, line: &[u8], from: usize) -> usize {
     let mut packet = [0u8; PACKET];
     let piece = part(line, from, CUTS[round % CUTS.len()]);
     let n = uplink::write(port, piece, &mut packet).length();
-    io::write_all(STDOUT_FILENO, part(&packet, 0, n));
+    let _ = out.write_all(part(&packet, 0, n));
     further(from, piece.len())
 }
 
 // The ports take turns, each with cuts of its own.
-fn send_all(one: &[u8], two: &[u8], three: &[u8], four: &[u8]) {
+fn send_all(out: Stdout, one: &[u8], two: &[u8], three: &[u8], four: &[u8]) {
     let mut a: usize = 0;
     let mut b: usize = 0;
     let mut c: usize = 0;
     let mut d: usize = 0;
     let mut round: usize = 0;
     while round < ROUNDS {
-        a = send_next(COMLYNX, round, one, a);
-        b = send_next(EVERSOLAR, round + 2, two, b);
-        c = send_next(FRONIUS, round + 3, three, c);
-        d = send_next(DRIVES, round + 1, four, d);
+        a = send_next(out, COMLYNX, round, one, a);
+        b = send_next(out, EVERSOLAR, round + 2, two, b);
+        c = send_next(out, FRONIUS, round + 3, three, c);
+        d = send_next(out, DRIVES, round + 1, four, d);
         round += 1;
     }
 }
 
 // What is read is shorter than its buffer, and no record begins with 0.
-fn main() {
-    let mut day = io::large_buffer();
-    io::read_full(STDIN_FILENO, &mut day);
-    let mut one = io::buffer();
-    let mut two = io::buffer();
-    let mut three = io::buffer();
-    let mut four = io::buffer();
+fn main(rt: HostRuntime) {
+    let mut day = [0u8; LARGE];
+    read_full(&mut rt.stdin(), &mut day);
+    let mut one = [0u8; LINE];
+    let mut two = [0u8; LINE];
+    let mut three = [0u8; LINE];
+    let mut four = [0u8; LINE];
     let end_one = fill(&mut one, &day, COMLYNX);
     let end_two = fill(&mut two, &day, EVERSOLAR);
     let end_three = fill(&mut three, &day, FRONIUS);
     let end_four = fill(&mut four, &day, DRIVES);
     send_all(
+        rt.stdout(),
         part(&one, 0, end_one),
         part(&two, 0, end_two),
         part(&three, 0, end_three),

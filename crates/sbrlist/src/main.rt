@@ -1,12 +1,18 @@
 // Lists the messages and damages of uplink packets: standard input to standard output. It reads, calls and writes; what is listed is decided in `listing`.
+//
+// What is read from, written to and told of a failure are parameters: a contract can name the bytes of a writer that holds them, and those of the system's
+// own streams it cannot.
 #![tactic(auto)]
 
-ghost use Rattle.std.specs.Prelude.{◌+◌, ◌-◌, ◌≤◌, ◌<◌, ◌≡◌, true, length, take};
+ghost use Rattle.std.specs.Prelude.{◌+◌, ◌-◌, ◌≤◌, ◌<◌, ◌≡◌, true, length, take, MatchResult};
+ghost use Rattle.std.specs.Io.{ReadsAtMost};
+ghost use Rattle.std.specs.Io.KnownBytes.{Appends};
 ghost use Rattle.listing.specs.Steps.{room_least};
 ghost use Rattle.sbrlist.specs.Run.{moved_front, IsReadOn, IsStarted, IsFilled, Handed, Printed};
 
-use libc::{EINTR, STDIN_FILENO, STDOUT_FILENO};
 use listing::{Heard, Listed, Listing};
+use std::io;
+use std::io::{ErrorKind, Read, Write};
 
 // What one buffer holds.
 const BUFFER: usize = 65536;
@@ -34,54 +40,76 @@ fn move_front(input: &mut [u8], from: usize, to: usize)
 }
 
 // Whether a read that answered this was interrupted by a signal.
-fn interrupted(got: isize) -> bool {
-    if got >= 0 {
-        return false;
+fn interrupted(got: &io::Result<usize>) -> bool {
+    match got {
+        Ok(_) => false,
+        Err(e) => e.kind() == ErrorKind::Interrupted,
     }
-    os::errno() == EINTR
 }
 
 // One read of what is there. One that was interrupted is made again; that they are counted only shows that this ends.
-fn read_some(buffer: &mut [u8]) -> isize {
-    let mut got = libc::read(STDIN_FILENO, buffer);
-    let mut turns = u64::MAX;
-    while (turns > 0) & interrupted(got) {
-        got = libc::read(STDIN_FILENO, buffer);
-        turns -= 1;
+fn read_some<R: Read>(source: &mut R, buffer: &mut [u8]) -> io::Result<usize>
+    ensures { ReadsAtMost result buffer.new }
+{
+    for _ in 0..u64::MAX {
+        let got = source.read(buffer);
+        if !interrupted(&got) {
+            return got;
+        }
     }
-    got
+    source.read(buffer)
+}
+
+// How many bytes a read brought. One that failed brought none, and says so.
+fn brought<E: Eprint>(got: io::Result<usize>, errors: &E) -> usize
+    ensures { MatchResult got (λ n. result ≡ n) (λ _. result ≡ 0) }
+{
+    match got {
+        Ok(n) => n,
+        Err(e) => {
+            let _ = eprintln!(errors; "sbrlist: standard input cannot be read: {e}");
+            0
+        }
+    }
 }
 
 // One read of what is there, behind what is at hand. One that fails says so.
-fn read_on(input: &mut [u8], from: usize, to: usize) -> Window
+fn read_on<R: Read, E: Eprint>(
+    source: &mut R,
+    errors: &E,
+    input: &mut [u8],
+    from: usize,
+    to: usize,
+) -> Window
     requires { (from ≤ to) × (to ≤ length input.old) }
     ensures { IsReadOn input.old from to result input.new }
 {
     move_front(input, from, to);
     let n = to - from;
-    let got = read_some(&mut input[n..]);
-    if got < 0 {
-        os::fail(b"sbrlist: standard input cannot be read");
-    }
-    let more = io::count(got, &input[n..]);
+    let got = read_some(source, &mut input[n..]);
+    let failed = got.is_err();
+    let more = brought(got, errors);
     Window {
         from: 0,
         to: n + more,
         ended: more == 0,
-        failed: got < 0,
+        failed,
     }
 }
 
 // What stands in the output buffer up to `at` is written; whether it was. A write that fails says so.
-fn flush(out: &[u8], at: usize) -> bool
+fn flush<W: Write, E: Eprint>(target: &mut W, errors: &E, out: &[u8], at: usize) -> bool
     requires { at ≤ length out.now }
-    ensures { result ≡ true → Handed (take at out.now) }
+    ensures handed { result ≡ true → Handed (take at out.now) }
+    ensures bytes { result ≡ true → Appends (W.contents target.old) (W.contents target.new) (take at out.now) }
 {
-    let written = io::write_all(STDOUT_FILENO, &out[..at]);
-    if !written {
-        os::fail(b"sbrlist: standard output cannot be written");
+    match target.write_all(&out[..at]) {
+        Ok(()) => true,
+        Err(e) => {
+            let _ = eprintln!(errors; "sbrlist: standard output cannot be written: {e}");
+            false
+        }
     }
-    written
 }
 
 // The header stands in the buffer.
@@ -134,12 +162,18 @@ fn fill(mut s: Listed, input: &[u8], ended: bool, out: &mut [u8]) -> Listed
 
 // Until the listing ends; whether it came to that. Output is written before a read that may wait. A read or a write that fails ends it, and then there is
 // no end line.
-fn list(input: &mut [u8], out: &mut [u8]) -> bool
+fn list<R: Read, W: Write, E: Eprint>(
+    source: &mut R,
+    target: &mut W,
+    errors: &E,
+    input: &mut [u8],
+    out: &mut [u8],
+) -> bool
     requires { room_least ≤ length out.old }
     ensures { result ≡ true → Printed input.new }
 {
     let header = start(out);
-    if !flush(out, header) {
+    if !flush(target, errors, out, header) {
         return false;
     }
     let mut s = none_taken(Listing::fresh());
@@ -150,14 +184,14 @@ fn list(input: &mut [u8], out: &mut [u8]) -> bool
         s = fill(s, &input[from..to], ended, out);
         from += s.used;
         let at = s.wrote;
-        if !flush(out, at) {
+        if !flush(target, errors, out, at) {
             return false;
         }
         let heard = s.heard;
         match heard {
             Heard::Packet => {}
             Heard::More => {
-                let w = read_on(input, from, to);
+                let w = read_on(source, errors, input, from, to);
                 if w.failed {
                     return false;
                 }
@@ -171,8 +205,8 @@ fn list(input: &mut [u8], out: &mut [u8]) -> bool
     }
 }
 
-fn main() {
+fn main(rt: HostRuntime) {
     let mut input = [0u8; BUFFER];
     let mut out = [0u8; BUFFER];
-    list(&mut input, &mut out);
+    list(&mut rt.stdin(), &mut rt.stdout(), &rt, &mut input, &mut out);
 }

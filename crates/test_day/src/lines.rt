@@ -1,15 +1,15 @@
 // The lines that are printed, one for each message and each damage: the place after it, counted from the day's first byte, the answer's number, the bytes
 // lost, the code byte, the number of data bytes, and a check number of the header and the data. All are decimal.
-use libc::STDOUT_FILENO;
 use numbers::wide;
+use std::io::Stdout;
 use test_parts::part;
 
 // The number of the answer that is a message (document 01).
 const MESSAGE: u8 = 1;
 
-fn print(n: u64, after: &[u8]) {
-    io::print_decimal(STDOUT_FILENO, n);
-    io::write_all(STDOUT_FILENO, after);
+fn print(out: Stdout, n: u64, after: &[u8]) {
+    let _ = print!(out; "{n}");
+    let _ = out.write_all(after);
 }
 
 // The sum of two numbers, modulo 2 to the 64.
@@ -33,18 +33,18 @@ fn folded_all(check: u64, s: &[u8]) -> u64 {
 }
 
 // A message, by its code byte, the number of its data bytes, and the check number of its header. The data stand at the front of the lent buffer.
-pub(crate) fn message(place: usize, code: u8, len: usize, header: u64, lent: &[u8]) {
-    print(place as u64, b" ");
-    print(MESSAGE as u64, b" ");
-    print(0, b" ");
-    print(code as u64, b" ");
-    print(len as u64, b" ");
-    print(folded_all(header, part(lent, 0, len)), b"\n");
+pub(crate) fn message(out: Stdout, place: usize, code: u8, len: usize, header: u64, lent: &[u8]) {
+    print(out, place as u64, b" ");
+    print(out, MESSAGE as u64, b" ");
+    print(out, 0, b" ");
+    print(out, code as u64, b" ");
+    print(out, len as u64, b" ");
+    print(out, folded_all(header, part(lent, 0, len)), b"\n");
 }
 
 // A damage has no code, no data, and nothing to check.
-pub(crate) fn damage(place: usize, number: u8, lost: u16) {
-    print(place as u64, b" ");
-    print(number as u64, b" ");
-    print(lost as u64, b" 0 0 0\n");
+pub(crate) fn damage(out: Stdout, place: usize, number: u8, lost: u16) {
+    print(out, place as u64, b" ");
+    print(out, number as u64, b" ");
+    print(out, lost as u64, b" 0 0 0\n");
 }

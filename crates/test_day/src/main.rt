@@ -15,9 +15,10 @@ mod slices;
 mod window;
 
 use families::stream;
-use libc::STDIN_FILENO;
 use numbers::{least, wide};
 use slices::day_by_slices;
+use std::io::{Stdin, Stdout};
+use test_parts::{LARGE, read_full};
 use window::before_the_day;
 
 // Where the input has the family and the way. The day stands behind them.
@@ -34,23 +35,45 @@ const LENT: usize = 256;
 const SLICES: usize = 0;
 
 // The whole day by the streaming reader. A piece is as long as the buffer that it is handed.
-fn day_by_pieces(family: u8, len: usize, buffer: &mut [u8], lent: &mut [u8]) {
+fn day_by_pieces(
+    stdin: Stdin,
+    out: Stdout,
+    family: u8,
+    len: usize,
+    buffer: &mut [u8],
+    lent: &mut [u8],
+) {
     let n = least(len, buffer.len());
-    stream(family, &mut buffer[..n], before_the_day(), false, lent);
+    stream(
+        stdin,
+        out,
+        family,
+        &mut buffer[..n],
+        before_the_day(),
+        false,
+        lent,
+    );
 }
 
-fn day(family: u8, way: usize, buffer: &mut [u8], lent: &mut [u8]) {
+fn day(stdin: Stdin, out: Stdout, family: u8, way: usize, buffer: &mut [u8], lent: &mut [u8]) {
     if way == SLICES {
-        day_by_slices(family, buffer, lent);
+        day_by_slices(stdin, out, family, buffer, lent);
         return;
     }
-    day_by_pieces(family, way, buffer, lent);
+    day_by_pieces(stdin, out, family, way, buffer, lent);
 }
 
-fn main() {
-    let mut buffer = io::large_buffer();
+fn main(rt: HostRuntime) {
+    let mut buffer = [0u8; LARGE];
     let mut lent = [0u8; LENT];
     let mut first = [0u8; DAY];
-    io::read_full(STDIN_FILENO, &mut first);
-    day(first[FAMILY], wide(first[WAY]), &mut buffer, &mut lent);
+    read_full(&mut rt.stdin(), &mut first);
+    day(
+        rt.stdin(),
+        rt.stdout(),
+        first[FAMILY],
+        wide(first[WAY]),
+        &mut buffer,
+        &mut lent,
+    );
 }

@@ -3,39 +3,40 @@ use crate::lines;
 use crate::lines::folded;
 use crate::window::{TURNS, Window, after_call, at_hand, place_in_day, used_on};
 use eversolar::{Answer, Header, Reader, Step};
+use std::io::{Stdin, Stdout};
 use test_parts::further;
 
-fn message(place: usize, h: Header, lent: &[u8]) {
+fn message(out: Stdout, place: usize, h: Header, lent: &[u8]) {
     let header = folded(folded(0, h.source_first as u64), h.source_second as u64);
     let header = folded(
         folded(header, h.destination_first as u64),
         h.destination_second as u64,
     );
     let header = folded(folded(header, h.control as u64), h.function as u64);
-    lines::message(place, h.function, h.len, header, lent);
+    lines::message(out, place, h.function, h.len, header, lent);
 }
 
 // Prints the line of an answer; whether it has one.
-fn told(place: usize, answer: Answer, lent: &[u8]) -> bool {
+fn told(out: Stdout, place: usize, answer: Answer, lent: &[u8]) -> bool {
     match answer {
         Answer::Done => false,
         Answer::Message(h) => {
-            message(place, h, lent);
+            message(out, place, h, lent);
             true
         }
         Answer::Damaged { what, lost } => {
-            lines::damage(place, what.number(), lost);
+            lines::damage(out, place, what.number(), lost);
             true
         }
         Answer::Refused(_) => false,
     }
 }
 
-pub(crate) fn ask(slice: &[u8], at: usize, day: usize, lent: &mut [u8]) -> usize {
+pub(crate) fn ask(out: Stdout, slice: &[u8], at: usize, day: usize, lent: &mut [u8]) -> usize {
     let found = eversolar::answer_at(slice, at, lent);
     let place = found.place;
     let answer = found.answer;
-    if told(further(day, place), answer, &*lent) {
+    if told(out, further(day, place), answer, &*lent) {
         return place;
     }
     at
@@ -52,18 +53,25 @@ fn fresh() -> Step {
     }
 }
 
-pub(crate) fn stream(buffer: &mut [u8], mut w: Window, one: bool, lent: &mut [u8]) -> Window {
+pub(crate) fn stream(
+    stdin: Stdin,
+    out: Stdout,
+    buffer: &mut [u8],
+    mut w: Window,
+    one: bool,
+    lent: &mut [u8],
+) -> Window {
     let mut s = fresh();
     let mut turns = TURNS;
     while turns > 0 {
         s = s.reader.step(at_hand(buffer, w), lent);
         w = used_on(w, s.used);
         let answer = s.answer;
-        let answered = told(place_in_day(w), answer, &*lent);
+        let answered = told(out, place_in_day(w), answer, &*lent);
         if answered & one {
             return w;
         }
-        w = after_call(buffer, w, answered);
+        w = after_call(stdin, buffer, w, answered);
         if w.ended {
             return w;
         }

@@ -1,14 +1,14 @@
 // What is at hand of the day: its bytes are at the front of a buffer, which is the slice that is asked.
 ghost use Rattle.std.specs.Prelude.{◌≤◌, length};
 
-use libc::STDIN_FILENO;
 use numbers::least;
-use test_parts::{further, part};
+use std::io::Stdin;
+use test_parts::{further, part, read_full};
 
 // What is counted down by a loop over the day, which only shows that it ends: no day has so many slices or pieces.
 pub(crate) const TURNS: u64 = u64::MAX;
 
-#[derive(Drop)]
+#[derive(Clone, Copy)]
 pub(crate) struct Window {
     // how many bytes of the day came before the buffer's first
     pub(crate) day: usize,
@@ -81,14 +81,14 @@ fn move_front(buffer: &mut [u8], from: usize, to: usize)
 // The next slice: what stands behind the last answer is moved to the buffer's front, and the buffer is filled up. Of the bytes before that place so many
 // are kept as count for the next answer, and the slice is asked from behind them. A buffer that is not full is the day's end, since a read stops short
 // of its buffer only there.
-pub(crate) fn next_slice(buffer: &mut [u8], w: Window, back: usize) -> Window {
+pub(crate) fn next_slice(mut stdin: Stdin, buffer: &mut [u8], w: Window, back: usize) -> Window {
     let to = least(w.len, buffer.len());
     let place = least(w.place, to);
     let kept = least(back, place);
     let from = place - kept;
     move_front(buffer, from, to);
     let n = to - from;
-    let len = n + io::read_full(STDIN_FILENO, &mut buffer[n..]);
+    let len = n + read_full(&mut stdin, &mut buffer[n..]);
     Window {
         day: further(w.day, from),
         len,
@@ -98,8 +98,8 @@ pub(crate) fn next_slice(buffer: &mut [u8], w: Window, back: usize) -> Window {
 }
 
 // The next bytes of the day, where all that are at hand are used up.
-fn next_bytes(buffer: &mut [u8], w: Window) -> Window {
-    let len = io::read_full(STDIN_FILENO, buffer);
+fn next_bytes(mut stdin: Stdin, buffer: &mut [u8], w: Window) -> Window {
+    let len = read_full(&mut stdin, buffer);
     Window {
         day: further(w.day, w.len),
         len,
@@ -109,9 +109,9 @@ fn next_bytes(buffer: &mut [u8], w: Window) -> Window {
 }
 
 // After a call of the streaming reader: behind an answer there may be more in what is at hand; without one it is used up.
-pub(crate) fn after_call(buffer: &mut [u8], w: Window, answered: bool) -> Window {
+pub(crate) fn after_call(stdin: Stdin, buffer: &mut [u8], w: Window, answered: bool) -> Window {
     if answered {
         return w;
     }
-    next_bytes(buffer, w)
+    next_bytes(stdin, buffer, w)
 }

@@ -2,8 +2,11 @@
 // there is, so that no program owes a proof for it.
 #![tactic(auto)]
 
+mod input;
+
 ghost use Rattle.test_parts.specs.Parts.{IsFurther, IsByteAt, IsWordAt, IsPart, IsLowOf, IsHighOf};
 
+pub use input::{LARGE, read_full};
 use numbers::{wide, word};
 
 // The families, by the numbers of their ports.

@@ -4,15 +4,20 @@ use crate::session::{Shape, first_of, lend, lent_of, read_on, read_rest, say_len
 use crate::shapes::{ROSTERS, WRITERS, shape_of};
 use crate::{rosters, values, writers};
 use numbers::least;
+use std::io::{Stdin, Stdout};
 use test_parts::{byte_at, part};
 
 // Makes a call, whose first list is given, and puts out the head of its result.
-fn make_with(who: u8, s: &[u8], first: &[u8], lent: &mut [u8], head: usize) {
+fn make_with(out: Stdout, who: u8, s: &[u8], first: &[u8], lent: &mut [u8], head: usize) {
     let op = byte_at(s, 0);
     match who {
-        WRITERS => say_head(writers::written(writers::write(op, s, first, lent)), head),
-        ROSTERS => say_head(rosters::head_of(op, s, lent), head),
-        _ => say_head(values::head_of(op, s, first), head),
+        WRITERS => say_head(
+            out,
+            writers::written(writers::write(op, s, first, lent)),
+            head,
+        ),
+        ROSTERS => say_head(out, rosters::head_of(op, s, lent), head),
+        _ => say_head(out, values::head_of(op, s, first), head),
     }
 }
 
@@ -22,39 +27,40 @@ fn whole(op: u8, list: &[u8]) -> &[u8] {
 }
 
 // Makes a call over the first `n` bytes of what is lent, and puts out the rest of its result.
-fn make_over(s: &[u8], lent: &mut [u8], n: usize, shape: Shape) {
+fn make_over(out: Stdout, s: &[u8], lent: &mut [u8], n: usize, shape: Shape) {
     let to = least(n, lent.len());
     make_with(
+        out,
         shape.who,
         s,
         first_of(s, shape),
         &mut lent[0..to],
         shape.head,
     );
-    say_lent(part(lent, 0, n), shape.lent);
+    say_lent(out, part(lent, 0, n), shape.lent);
 }
 
 // Makes a call and puts its result out: its length, the head, the state, and what was lent.
-fn make(s: &[u8], lent: &mut [u8]) {
+fn make(out: Stdout, s: &[u8], lent: &mut [u8]) {
     let op = byte_at(s, 0);
     let shape = shape_of(op);
     let list = whole(op, lent_of(s, shape));
-    lend(list, lent, shape);
-    make_over(s, lent, list.len(), shape);
+    lend(out, list, lent, shape);
+    make_over(out, s, lent, list.len(), shape);
 }
 
 // Reads the next call to the front of a buffer. Answers its length, far more than there is room for where it is not whole.
-fn read(call: &mut [u8]) -> usize {
-    let next = read_on(call, 0, 1);
-    read_rest(call, next, shape_of(byte_at(call, 0)))
+fn read(stdin: Stdin, call: &mut [u8]) -> usize {
+    let next = read_on(stdin, call, 0, 1);
+    read_rest(stdin, call, next, shape_of(byte_at(call, 0)))
 }
 
 // Reads the next call and makes it. Tells whether there was a whole one.
-pub(crate) fn next_call(call: &mut [u8], lent: &mut [u8]) -> bool {
-    let n = read(call);
+pub(crate) fn next_call(stdin: Stdin, out: Stdout, call: &mut [u8], lent: &mut [u8]) -> bool {
+    let n = read(stdin, call);
     if n > call.len() {
         return false;
     }
-    make(part(call, 0, n), lent);
+    make(out, part(call, 0, n), lent);
     true
 }

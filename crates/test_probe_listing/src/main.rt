@@ -14,17 +14,18 @@ mod texts;
 mod wire;
 
 use calls::next_call;
+use test_parts::LARGE;
 
 // The most calls that are made of one input.
 const CALLS_MAX: u32 = 4294967295;
 
 // The buffers hold more than any call, and more than any call lends.
-fn main() {
-    let mut call = io::large_buffer();
-    let mut lent = io::large_buffer();
+fn main(rt: HostRuntime) {
+    let mut call = [0u8; LARGE];
+    let mut lent = [0u8; LARGE];
     let mut made: u32 = 0;
     while made < CALLS_MAX {
-        if !next_call(&mut call, &mut lent) {
+        if !next_call(rt.stdin(), rt.stdout(), &mut call, &mut lent) {
             return;
         }
         made += 1;

@@ -5,6 +5,7 @@ use crate::sides::{ports_of, say_ports};
 use crate::wire::{QUAD, quad_at, say};
 use listing::{Heard, Listing};
 use ports::Ports;
+use std::io::Stdout;
 use test_parts::{byte_at, high, low, part};
 
 fn listing_of(s: &[u8]) -> Listing {
@@ -17,17 +18,17 @@ fn listing_of(s: &[u8]) -> Listing {
     }
 }
 
-fn say_count(n: u64) {
+fn say_count(out: Stdout, n: u64) {
     let bytes = told(0, n);
-    say(part(&bytes, 1, QUAD));
+    say(out, part(&bytes, 1, QUAD));
 }
 
-fn say_listing(listing: Listing) {
+fn say_listing(out: Stdout, listing: Listing) {
     let ports = listing.ports;
-    say_ports(ports);
-    say_count(listing.packets as u64);
-    say_count(listing.messages);
-    say_count(listing.damages);
+    say_ports(out, ports);
+    say_count(out, listing.packets as u64);
+    say_count(out, listing.messages);
+    say_count(out, listing.damages);
 }
 
 fn came(number: u8, what: u8, used: usize, wrote: usize) -> [u8; HEAD] {
@@ -57,19 +58,19 @@ fn heard_head(heard: Heard, used: usize, wrote: usize) -> [u8; HEAD] {
     }
 }
 
-pub(crate) fn call(s: &[u8], input: &[u8], lent: &mut [u8], head: usize) {
+pub(crate) fn call(out: Stdout, s: &[u8], input: &[u8], lent: &mut [u8], head: usize) {
     let ended = byte_at(s, 1 + LISTING_STATE) == 1;
     let listed = listing_of(s).step(input, ended, lent);
     let heard = listed.heard;
     let listing = listed.listing;
-    say_head(heard_head(heard, listed.used, listed.wrote), head);
-    say_listing(listing);
+    say_head(out, heard_head(heard, listed.used, listed.wrote), head);
+    say_listing(out, listing);
 }
 
-pub(crate) fn fresh(op: u8, head: usize) {
-    say_head(told(0, 0), head);
+pub(crate) fn fresh(out: Stdout, op: u8, head: usize) {
+    say_head(out, told(0, 0), head);
     match op {
-        0x86 => say_ports(Ports::fresh()),
-        _ => say_listing(Listing::fresh()),
+        0x86 => say_ports(out, Ports::fresh()),
+        _ => say_listing(out, Listing::fresh()),
     }
 }

@@ -6,6 +6,7 @@ use crate::states::{
 };
 use crate::wire::{WORD, say, say_list, say_size};
 use ports::{Answer, Ports};
+use std::io::Stdout;
 use test_parts::{byte_at, further, high, low, part};
 
 // How many bytes are told where all three lists are empty: the number, the bytes used and lost, the length of each list, and how many data bytes there are.
@@ -32,20 +33,21 @@ pub(crate) fn ports_of(s: &[u8]) -> Ports {
     }
 }
 
-pub(crate) fn say_ports(ports: Ports) {
+pub(crate) fn say_ports(out: Stdout, ports: Ports) {
     let first = ports.comlynx;
     let second = ports.eversolar;
     let third = ports.fronius;
     let fourth = ports.drives;
-    say_comlynx(first);
-    say_eversolar(second);
-    say_fronius(third);
-    say_drives(fourth);
+    say_comlynx(out, first);
+    say_eversolar(out, second);
+    say_fronius(out, third);
+    say_drives(out, fourth);
 }
 
 // Puts out what is told of an answer: first its length with all that follows behind it, then the number and the bytes used and lost. Of a message from,
 // to, code and the number of its data bytes follow.
 fn say_told(
+    out: Stdout,
     number: u8,
     used: usize,
     lost: usize,
@@ -57,67 +59,73 @@ fn say_told(
 ) {
     let lists = further(further(from.len(), to.len()), code.len());
     let number = [number];
-    say_size(further(further(TOLD, lists), behind));
-    say(&number);
-    say_size(used);
-    say_size(lost);
-    say_list(from);
-    say_list(to);
-    say_list(code);
-    say_size(len);
+    say_size(out, further(further(TOLD, lists), behind));
+    say(out, &number);
+    say_size(out, used);
+    say_size(out, lost);
+    say_list(out, from);
+    say_list(out, to);
+    say_list(out, code);
+    say_size(out, len);
 }
 
-fn say_number(number: u8, used: usize, lost: usize, behind: usize) {
-    say_told(number, used, lost, b"", b"", b"", 0, behind);
+fn say_number(out: Stdout, number: u8, used: usize, lost: usize, behind: usize) {
+    say_told(out, number, used, lost, b"", b"", b"", 0, behind);
 }
 
-fn say_comlynx_message(h: comlynx::Header, used: usize, behind: usize) {
+fn say_comlynx_message(out: Stdout, h: comlynx::Header, used: usize, behind: usize) {
     let source = h.source as usize;
     let destination = h.destination as usize;
     let from = [high(source), low(source)];
     let to = [high(destination), low(destination)];
     let code = [h.kind];
-    say_told(MESSAGE, used, 0, &from, &to, &code, h.len, behind);
+    say_told(out, MESSAGE, used, 0, &from, &to, &code, h.len, behind);
 }
 
-fn say_eversolar_message(h: eversolar::Header, used: usize, behind: usize) {
+fn say_eversolar_message(out: Stdout, h: eversolar::Header, used: usize, behind: usize) {
     let from = [h.source_first, h.source_second];
     let to = [h.destination_first, h.destination_second];
     let code = [h.control, h.function];
-    say_told(MESSAGE, used, 0, &from, &to, &code, h.len, behind);
+    say_told(out, MESSAGE, used, 0, &from, &to, &code, h.len, behind);
 }
 
-fn say_fronius_message(h: fronius::Header, used: usize, behind: usize) {
+fn say_fronius_message(out: Stdout, h: fronius::Header, used: usize, behind: usize) {
     let to = [h.device, h.number];
     let code = [h.command];
-    say_told(MESSAGE, used, 0, b"", &to, &code, h.len, behind);
+    say_told(out, MESSAGE, used, 0, b"", &to, &code, h.len, behind);
 }
 
-fn say_drives_message(h: drives::Header, used: usize, behind: usize) {
+fn say_drives_message(out: Stdout, h: drives::Header, used: usize, behind: usize) {
     let from = [h.opening];
     let to = [h.station_first, h.station_second];
     let code = [h.letter];
-    say_told(MESSAGE, used, 0, &from, &to, &code, h.len, behind);
+    say_told(out, MESSAGE, used, 0, &from, &to, &code, h.len, behind);
 }
 
-fn say_answer(answer: Answer, used: usize, behind: usize) {
+fn say_answer(out: Stdout, answer: Answer, used: usize, behind: usize) {
     match answer {
-        Answer::Done => say_number(0, used, 0, behind),
-        Answer::ComLynx(h) => say_comlynx_message(h, used, behind),
-        Answer::Eversolar(h) => say_eversolar_message(h, used, behind),
-        Answer::Fronius(h) => say_fronius_message(h, used, behind),
-        Answer::Drives(h) => say_drives_message(h, used, behind),
-        Answer::Damaged { what, lost } => say_number(what.number(), used, lost as usize, behind),
-        Answer::Refused(why) => say_number(why.number(), used, 0, behind),
+        Answer::Done => say_number(out, 0, used, 0, behind),
+        Answer::ComLynx(h) => say_comlynx_message(out, h, used, behind),
+        Answer::Eversolar(h) => say_eversolar_message(out, h, used, behind),
+        Answer::Fronius(h) => say_fronius_message(out, h, used, behind),
+        Answer::Drives(h) => say_drives_message(out, h, used, behind),
+        Answer::Damaged { what, lost } => say_number(
+            out,
+            what.number(),
+            used,
+            lost as usize,
+            behind,
+        ),
+        Answer::Refused(why) => say_number(out, why.number(), used, 0, behind),
     }
 }
 
 // The answer decides how long the result is, so that its length is put out here. The state and what was lent stand behind what is told.
-pub(crate) fn call(s: &[u8], piece: &[u8], lent: &mut [u8]) {
+pub(crate) fn call(out: Stdout, s: &[u8], piece: &[u8], lent: &mut [u8]) {
     let behind = further(PORTS_STATE + WORD, lent.len());
     let step = ports_of(s).step(byte_at(s, 1 + PORTS_STATE), piece, lent);
     let answer = step.answer;
     let ports = step.ports;
-    say_answer(answer, step.used, behind);
-    say_ports(ports);
+    say_answer(out, answer, step.used, behind);
+    say_ports(out, ports);
 }

@@ -2,6 +2,7 @@
 use crate::heads::{say_head, told};
 use crate::wire::{list_at, quad_at, word_at};
 use answers::Written;
+use std::io::Stdout;
 use test_parts::byte_at;
 
 // The line of a message whose from, to and code have 2, 2 and 1 bytes.
@@ -77,7 +78,7 @@ fn write(op: u8, s: &[u8], lent: &mut [u8]) -> Written {
     }
 }
 
-pub(crate) fn say_line(op: u8, s: &[u8], lent: &mut [u8], head: usize) {
+pub(crate) fn say_line(out: Stdout, op: u8, s: &[u8], lent: &mut [u8], head: usize) {
     let written = write(op, s, lent);
-    say_head(told(written.number(), written.length() as u64), head);
+    say_head(out, told(written.number(), written.length() as u64), head);
 }

@@ -6,6 +6,7 @@ use crate::shapes::{COMLYNX_HEAD, DRIVES_HEAD, EVERSOLAR_HEAD, FRONIUS_HEAD};
 use crate::states::{DRIVES_NUMBERS, NUMBERS, say_counted};
 use crate::wire::{WORD, list_at, past_list, put, say_list, say_size, size_at, word_at};
 use numbers::least;
+use std::io::Stdout;
 use test_parts::{byte_at, further, part};
 
 // How many held bytes are lent at most: more than any reader holds.
@@ -25,12 +26,12 @@ fn piece_of(s: &[u8], numbers: usize) -> &[u8] {
     list_at(s, past_list(s, further(1, numbers)))
 }
 
-fn say_numbers(stage: u8, count: usize, last: usize) {
-    say_counted(stage, count);
-    say_size(last);
+fn say_numbers(out: Stdout, stage: u8, count: usize, last: usize) {
+    say_counted(out, stage, count);
+    say_size(out, last);
 }
 
-fn comlynx(s: &[u8], held: &mut [u8], lent: &mut [u8]) {
+fn comlynx(out: Stdout, s: &[u8], held: &mut [u8], lent: &mut [u8]) {
     let step = comlynx::step_in_place(
         byte_at(s, STAGE),
         word_at(s, CAME),
@@ -40,11 +41,11 @@ fn comlynx(s: &[u8], held: &mut [u8], lent: &mut [u8]) {
         lent,
     );
     let answer = step.answer;
-    say_head(comlynx_head(answer, step.used), COMLYNX_HEAD);
-    say_numbers(step.stage, step.count, step.came as usize);
+    say_head(out, comlynx_head(answer, step.used), COMLYNX_HEAD);
+    say_numbers(out, step.stage, step.count, step.came as usize);
 }
 
-fn eversolar(s: &[u8], held: &mut [u8], lent: &mut [u8]) {
+fn eversolar(out: Stdout, s: &[u8], held: &mut [u8], lent: &mut [u8]) {
     let step = eversolar::step_in_place(
         byte_at(s, STAGE),
         size_at(s, COUNT),
@@ -54,11 +55,11 @@ fn eversolar(s: &[u8], held: &mut [u8], lent: &mut [u8]) {
         lent,
     );
     let answer = step.answer;
-    say_head(eversolar_head(answer, step.used), EVERSOLAR_HEAD);
-    say_numbers(step.stage, step.count, step.len);
+    say_head(out, eversolar_head(answer, step.used), EVERSOLAR_HEAD);
+    say_numbers(out, step.stage, step.count, step.len);
 }
 
-fn fronius(s: &[u8], held: &mut [u8], lent: &mut [u8]) {
+fn fronius(out: Stdout, s: &[u8], held: &mut [u8], lent: &mut [u8]) {
     let step = fronius::step_in_place(
         byte_at(s, STAGE),
         size_at(s, COUNT),
@@ -68,11 +69,11 @@ fn fronius(s: &[u8], held: &mut [u8], lent: &mut [u8]) {
         lent,
     );
     let answer = step.answer;
-    say_head(fronius_head(answer, step.used), FRONIUS_HEAD);
-    say_numbers(step.stage, step.count, step.len);
+    say_head(out, fronius_head(answer, step.used), FRONIUS_HEAD);
+    say_numbers(out, step.stage, step.count, step.len);
 }
 
-fn drives(s: &[u8], held: &mut [u8], lent: &mut [u8]) {
+fn drives(out: Stdout, s: &[u8], held: &mut [u8], lent: &mut [u8]) {
     let step = drives::step_in_place(
         byte_at(s, STAGE),
         size_at(s, COUNT),
@@ -81,16 +82,16 @@ fn drives(s: &[u8], held: &mut [u8], lent: &mut [u8]) {
         lent,
     );
     let answer = step.answer;
-    say_head(drives_head(answer, step.used), DRIVES_HEAD);
-    say_counted(step.stage, step.count);
+    say_head(out, drives_head(answer, step.used), DRIVES_HEAD);
+    say_counted(out, step.stage, step.count);
 }
 
-fn make(op: u8, s: &[u8], held: &mut [u8], lent: &mut [u8]) {
+fn make(out: Stdout, op: u8, s: &[u8], held: &mut [u8], lent: &mut [u8]) {
     match op {
-        0x07 => comlynx(s, held, lent),
-        0x08 => eversolar(s, held, lent),
-        0x09 => fronius(s, held, lent),
-        _ => drives(s, held, lent),
+        0x07 => comlynx(out, s, held, lent),
+        0x08 => eversolar(out, s, held, lent),
+        0x09 => fronius(out, s, held, lent),
+        _ => drives(out, s, held, lent),
     }
 }
 
@@ -110,20 +111,20 @@ fn length_of(told: usize, held: usize, lent: usize) -> usize {
 }
 
 // Lends the first `n` of the held bytes.
-fn lend(op: u8, s: &[u8], held: &mut [u8], n: usize, lent: &mut [u8]) {
+fn lend(out: Stdout, op: u8, s: &[u8], held: &mut [u8], n: usize, lent: &mut [u8]) {
     let to = least(n, held.len());
-    make(op, s, &mut held[0..to], lent);
+    make(out, op, s, &mut held[0..to], lent);
 }
 
 // The held bytes decide how long the result is, so that its length is put out here.
-fn call_over(op: u8, s: &[u8], first: &[u8], lent: &mut [u8]) {
+fn call_over(out: Stdout, op: u8, s: &[u8], first: &[u8], lent: &mut [u8]) {
     let mut held = [0u8; HELD_MAX];
     put(&mut held, 0, first);
-    say_size(length_of(told_of(op), first.len(), lent.len()));
-    lend(op, s, &mut held, first.len(), lent);
-    say_list(part(&held, 0, first.len()));
+    say_size(out, length_of(told_of(op), first.len(), lent.len()));
+    lend(out, op, s, &mut held, first.len(), lent);
+    say_list(out, part(&held, 0, first.len()));
 }
 
-pub(crate) fn call(op: u8, s: &[u8], first: &[u8], lent: &mut [u8]) {
-    call_over(op, s, part(first, 0, HELD_MAX), lent);
+pub(crate) fn call(out: Stdout, op: u8, s: &[u8], first: &[u8], lent: &mut [u8]) {
+    call_over(out, op, s, part(first, 0, HELD_MAX), lent);
 }

@@ -5,6 +5,7 @@ use crate::states::{
     MESSAGE, comlynx_state, drives_state, eversolar_state, fronius_state, say_comlynx, say_drives,
     say_eversolar, say_fronius,
 };
+use std::io::Stdout;
 use test_parts::{high, low};
 
 // What is told where there is no message: the answer number, the bytes used, and how many were lost.
@@ -57,12 +58,12 @@ pub(crate) fn comlynx_head(answer: comlynx::Answer, used: usize) -> [u8; HEAD] {
     }
 }
 
-pub(crate) fn comlynx(s: &[u8], piece: &[u8], lent: &mut [u8], head: usize) {
+pub(crate) fn comlynx(out: Stdout, s: &[u8], piece: &[u8], lent: &mut [u8], head: usize) {
     let step = comlynx_state(s).step(piece, lent);
     let answer = step.answer;
     let state = step.reader;
-    say_head(comlynx_head(answer, step.used), head);
-    say_comlynx(state);
+    say_head(out, comlynx_head(answer, step.used), head);
+    say_comlynx(out, state);
 }
 
 // ---- Eversolar
@@ -94,12 +95,12 @@ pub(crate) fn eversolar_head(answer: eversolar::Answer, used: usize) -> [u8; HEA
     }
 }
 
-pub(crate) fn eversolar(s: &[u8], piece: &[u8], lent: &mut [u8], head: usize) {
+pub(crate) fn eversolar(out: Stdout, s: &[u8], piece: &[u8], lent: &mut [u8], head: usize) {
     let step = eversolar_state(s).step(piece, lent);
     let answer = step.answer;
     let state = step.reader;
-    say_head(eversolar_head(answer, step.used), head);
-    say_eversolar(state);
+    say_head(out, eversolar_head(answer, step.used), head);
+    say_eversolar(out, state);
 }
 
 // ---- Fronius
@@ -131,12 +132,12 @@ pub(crate) fn fronius_head(answer: fronius::Answer, used: usize) -> [u8; HEAD] {
     }
 }
 
-pub(crate) fn fronius(s: &[u8], piece: &[u8], lent: &mut [u8], head: usize) {
+pub(crate) fn fronius(out: Stdout, s: &[u8], piece: &[u8], lent: &mut [u8], head: usize) {
     let step = fronius_state(s).step(piece, lent);
     let answer = step.answer;
     let state = step.reader;
-    say_head(fronius_head(answer, step.used), head);
-    say_fronius(state);
+    say_head(out, fronius_head(answer, step.used), head);
+    say_fronius(out, state);
 }
 
 // ---- Drives
@@ -168,22 +169,22 @@ pub(crate) fn drives_head(answer: drives::Answer, used: usize) -> [u8; HEAD] {
     }
 }
 
-pub(crate) fn drives(s: &[u8], piece: &[u8], lent: &mut [u8], head: usize) {
+pub(crate) fn drives(out: Stdout, s: &[u8], piece: &[u8], lent: &mut [u8], head: usize) {
     let step = drives_state(s).step(piece, lent);
     let answer = step.answer;
     let state = step.reader;
-    say_head(drives_head(answer, step.used), head);
-    say_drives(state);
+    say_head(out, drives_head(answer, step.used), head);
+    say_drives(out, state);
 }
 
 // ---- the fresh states
 
-pub(crate) fn fresh(op: u8, head: usize) {
-    say_head(told(0, 0), head);
+pub(crate) fn fresh(out: Stdout, op: u8, head: usize) {
+    say_head(out, told(0, 0), head);
     match op {
-        0x04 => say_comlynx(comlynx::Reader::fresh()),
-        0x05 => say_eversolar(eversolar::Reader::fresh()),
-        0x06 => say_fronius(fronius::Reader::fresh()),
-        _ => say_drives(drives::Reader::fresh()),
+        0x04 => say_comlynx(out, comlynx::Reader::fresh()),
+        0x05 => say_eversolar(out, eversolar::Reader::fresh()),
+        0x06 => say_fronius(out, fronius::Reader::fresh()),
+        _ => say_drives(out, drives::Reader::fresh()),
     }
 }

@@ -1,12 +1,12 @@
 // The bytes of a call and of its result: reading the one, and putting out of the other what every result has. A program's own modules say the rest:
 // `shapes` which calls it knows, `calls` who makes each.
 use crate::wire::{FAR, WORD, list_at, list_size, past_list, put, say_list, say_size};
-use libc::STDIN_FILENO;
 use numbers::least;
-use test_parts::further;
+use std::io::{Stdin, Stdout};
+use test_parts::{further, read_full};
 
 // The bytes of a call and of its result.
-#[derive(Drop)]
+#[derive(Clone, Copy)]
 pub(crate) struct Shape {
     // who makes it
     pub(crate) who: u8,
@@ -38,7 +38,7 @@ pub(crate) fn unlisted() -> Shape {
 }
 
 // Reads so many bytes from an index on. Answers the index behind them, far away where they are not all there.
-pub(crate) fn read_on(call: &mut [u8], at: usize, n: usize) -> usize {
+pub(crate) fn read_on(mut stdin: Stdin, call: &mut [u8], at: usize, n: usize) -> usize {
     if n == 0 {
         return at;
     }
@@ -46,34 +46,34 @@ pub(crate) fn read_on(call: &mut [u8], at: usize, n: usize) -> usize {
         return FAR;
     }
     let to = least(further(at, n), call.len());
-    if io::read_full(STDIN_FILENO, &mut call[at..to]) < n {
+    if read_full(&mut stdin, &mut call[at..to]) < n {
         return FAR;
     }
     to
 }
 
 // Reads a list from an index on, where there is one.
-fn read_list(call: &mut [u8], at: usize, there: bool) -> usize {
+fn read_list(stdin: Stdin, call: &mut [u8], at: usize, there: bool) -> usize {
     if !there {
         return at;
     }
-    let next = read_on(call, at, WORD);
-    read_on(call, next, list_size(call, at))
+    let next = read_on(stdin, call, at, WORD);
+    read_on(stdin, call, next, list_size(call, at))
 }
 
 // Reads a call behind its opcode, as far as its second list.
-fn read_front(call: &mut [u8], next: usize, shape: Shape) -> usize {
-    let next = read_on(call, next, shape.front);
-    let next = read_list(call, next, shape.lists > 0);
-    read_on(call, next, shape.between)
+fn read_front(stdin: Stdin, call: &mut [u8], next: usize, shape: Shape) -> usize {
+    let next = read_on(stdin, call, next, shape.front);
+    let next = read_list(stdin, call, next, shape.lists > 0);
+    read_on(stdin, call, next, shape.between)
 }
 
 // Reads a call behind its opcode. Answers the call's length, far more than there is room for where it is not whole.
-pub(crate) fn read_rest(call: &mut [u8], next: usize, shape: Shape) -> usize {
+pub(crate) fn read_rest(stdin: Stdin, call: &mut [u8], next: usize, shape: Shape) -> usize {
     let lists = shape.lists;
-    let next = read_front(call, next, shape);
-    let next = read_list(call, next, lists > 1);
-    read_list(call, next, lists > 2)
+    let next = read_front(stdin, call, next, shape);
+    let next = read_list(stdin, call, next, lists > 1);
+    read_list(stdin, call, next, lists > 2)
 }
 
 // Where a call has the list that it lends, if it lends one.
@@ -101,11 +101,11 @@ pub(crate) fn lent_of(s: &[u8], shape: Shape) -> &[u8] {
 }
 
 // Puts out what a call was lent, as it is later, where it was lent something.
-pub(crate) fn say_lent(lent: &[u8], which: u8) {
+pub(crate) fn say_lent(out: Stdout, lent: &[u8], which: u8) {
     if which == 0 {
         return;
     }
-    say_list(lent);
+    say_list(out, lent);
 }
 
 // How many bytes a result has behind its head and its state.
@@ -117,16 +117,17 @@ fn lent_size(n: usize, which: u8) -> usize {
 }
 
 // Puts out a result's length, where it is known before the call is made.
-fn say_length(head: usize, n: usize) {
+fn say_length(out: Stdout, head: usize, n: usize) {
     if head == 0 {
         return;
     }
-    say_size(further(head, n));
+    say_size(out, further(head, n));
 }
 
 // Puts a list into the buffer that is lent, and the result's length out.
-pub(crate) fn lend(list: &[u8], lent: &mut [u8], shape: Shape) {
+pub(crate) fn lend(out: Stdout, list: &[u8], lent: &mut [u8], shape: Shape) {
     say_length(
+        out,
         shape.head,
         further(shape.state, lent_size(list.len(), shape.lent)),
     );

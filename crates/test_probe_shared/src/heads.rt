@@ -1,6 +1,7 @@
 // The head of a result: the answer number and the numbers behind it, as bytes, up to as many as any result has. `shapes` says how many of
 // them count.
 use crate::wire::say;
+use std::io::Stdout;
 use test_parts::part;
 
 pub(crate) const HEAD: usize = 13;
@@ -33,6 +34,6 @@ pub(crate) fn told(number: u8, n: u64) -> [u8; HEAD] {
 }
 
 // Puts out as much of a head as counts.
-pub(crate) fn say_head(head: [u8; HEAD], n: usize) {
-    say(part(&head, 0, n));
+pub(crate) fn say_head(out: Stdout, head: [u8; HEAD], n: usize) {
+    say(out, part(&head, 0, n));
 }

@@ -1,5 +1,6 @@
 // A reader's state as the bytes of a call and of its result: any state, forged ones too.
 use crate::wire::{put, say, say_size, size_at, word_at};
+use std::io::Stdout;
 use test_parts::{byte_at, part};
 
 // The answer number of a message.
@@ -38,17 +39,17 @@ const LEN: usize = 4;
 const CAME: usize = 4;
 
 // Puts out stage and count.
-pub(crate) fn say_counted(stage: u8, count: usize) {
+pub(crate) fn say_counted(out: Stdout, stage: u8, count: usize) {
     let stage = [stage];
-    say(&stage);
-    say_size(count);
+    say(out, &stage);
+    say_size(out, count);
 }
 
 // Puts out a state, whose last number is its length or how many bytes came.
-fn say_state(held: &[u8], stage: u8, count: usize, last: usize) {
-    say(held);
-    say_counted(stage, count);
-    say_size(last);
+fn say_state(out: Stdout, held: &[u8], stage: u8, count: usize, last: usize) {
+    say(out, held);
+    say_counted(out, stage, count);
+    say_size(out, last);
 }
 
 // ---- ComLynx
@@ -64,9 +65,9 @@ pub(crate) fn comlynx_state(s: &[u8]) -> comlynx::Reader {
     }
 }
 
-pub(crate) fn say_comlynx(state: comlynx::Reader) {
+pub(crate) fn say_comlynx(out: Stdout, state: comlynx::Reader) {
     let held = state.held;
-    say_state(&held, state.stage, state.count, state.came as usize);
+    say_state(out, &held, state.stage, state.count, state.came as usize);
 }
 
 // ---- Eversolar
@@ -82,9 +83,9 @@ pub(crate) fn eversolar_state(s: &[u8]) -> eversolar::Reader {
     }
 }
 
-pub(crate) fn say_eversolar(state: eversolar::Reader) {
+pub(crate) fn say_eversolar(out: Stdout, state: eversolar::Reader) {
     let held = state.held;
-    say_state(&held, state.stage, state.count, state.len);
+    say_state(out, &held, state.stage, state.count, state.len);
 }
 
 // ---- Fronius
@@ -100,9 +101,9 @@ pub(crate) fn fronius_state(s: &[u8]) -> fronius::Reader {
     }
 }
 
-pub(crate) fn say_fronius(state: fronius::Reader) {
+pub(crate) fn say_fronius(out: Stdout, state: fronius::Reader) {
     let held = state.held;
-    say_state(&held, state.stage, state.count, state.len);
+    say_state(out, &held, state.stage, state.count, state.len);
 }
 
 // ---- Drives
@@ -117,8 +118,8 @@ pub(crate) fn drives_state(s: &[u8]) -> drives::Reader {
     }
 }
 
-pub(crate) fn say_drives(state: drives::Reader) {
+pub(crate) fn say_drives(out: Stdout, state: drives::Reader) {
     let held = state.held;
-    say(&held);
-    say_counted(state.stage, state.count);
+    say(out, &held);
+    say_counted(out, state.stage, state.count);
 }

@@ -9,6 +9,7 @@ mod calls;
 mod wire;
 
 use calls::next_call;
+use test_parts::LARGE;
 
 // The most calls that are made of one input.
 const CALLS_MAX: u32 = 4294967295;
@@ -17,13 +18,13 @@ const CALLS_MAX: u32 = 4294967295;
 const SLICE: usize = 65537;
 
 // How many bytes of the slice count is carried from call to call: a call may set the slice for those that come after it.
-fn main() {
+fn main(rt: HostRuntime) {
     let mut slice = [0u8; SLICE];
-    let mut lent = io::large_buffer();
+    let mut lent = [0u8; LARGE];
     let mut size: usize = 0;
     let mut made: u32 = 0;
     while made < CALLS_MAX {
-        let next = next_call(&mut slice, size, &mut lent);
+        let next = next_call(rt.stdin(), rt.stdout(), &mut slice, size, &mut lent);
         if next.ended {
             return;
         }

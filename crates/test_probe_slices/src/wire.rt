@@ -1,7 +1,7 @@
 // Numbers and lists in a call's bytes, and putting bytes out. Every function here takes any index: a byte past the end reads as 0,
 // and what does not fit is not put, so that no caller owes a proof.
-use libc::STDOUT_FILENO;
 use numbers::word;
+use std::io::Stdout;
 use test_parts::{byte_at, further, high, low, part};
 
 // An index that no buffer here has.
@@ -67,21 +67,21 @@ pub(crate) fn put(buffer: &mut [u8], at: usize, s: &[u8]) {
     if buffer.len() - at < s.len() {
         return;
     }
-    bytes::copy(s, &mut buffer[at..]);
+    buffer[at..at + s.len()].copy_from_slice(s);
 }
 
 // Puts bytes out.
-pub(crate) fn say(s: &[u8]) {
-    io::write_all(STDOUT_FILENO, s);
+pub(crate) fn say(out: Stdout, s: &[u8]) {
+    let _ = out.write_all(s);
 }
 
-pub(crate) fn say_size(n: usize) {
+pub(crate) fn say_size(out: Stdout, n: usize) {
     let size = [low(n), high(n)];
-    say(&size);
+    say(out, &size);
 }
 
 // Puts out a list, its length first.
-pub(crate) fn say_list(s: &[u8]) {
-    say_size(s.len());
-    say(s);
+pub(crate) fn say_list(out: Stdout, s: &[u8]) {
+    say_size(out, s.len());
+    say(out, s);
 }

@@ -5,8 +5,8 @@
 mod families;
 
 use families::{MESSAGE, READ, read, write};
-use libc::{STDIN_FILENO, STDOUT_FILENO};
-use test_parts::{COMLYNX, DRIVES, EVERSOLAR, FRONIUS, byte_at, part, size_at};
+use std::io::Stdout;
+use test_parts::{COMLYNX, DRIVES, EVERSOLAR, FRONIUS, LARGE, byte_at, part, read_full, size_at};
 
 // A record has a front, then room for a payload and room for a frame.
 const FRONT: usize = 13;
@@ -63,59 +63,58 @@ fn frame_of(record: &[u8]) -> &[u8] {
 // Whether what was read is what the document says, with its payload.
 fn reads(record: &[u8], got: &[u8], lent: &[u8]) -> bool {
     let payload = payload_of(record);
-    check::same(got, part(record, TO_READ, READ))
-        & check::same(part(lent, 0, payload.len()), payload)
+    (got == part(record, TO_READ, READ)) & (part(lent, 0, payload.len()) == payload)
 }
 
 // Whether a message is written as the frame: all of its length, and its bytes as far as they are printed.
 fn writes(record: &[u8], again: &[u8]) -> bool {
     let frame = frame_of(record);
     let printed = size_at(record, PRINTED);
-    (again.len() == frame.len()) & check::same(part(again, 0, printed), part(frame, 0, printed))
+    (again.len() == frame.len()) & (part(again, 0, printed) == part(frame, 0, printed))
 }
 
-fn print(text: &[u8]) {
-    io::write_all(STDOUT_FILENO, text);
+fn print(out: Stdout, text: &[u8]) {
+    let _ = out.write_all(text);
 }
 
-fn print_number(n: u8) {
-    io::print_decimal(STDOUT_FILENO, n as u64);
-    print(b" ");
+fn print_number(out: Stdout, n: u8) {
+    let _ = print!(out; "{n}");
+    print(out, b" ");
 }
 
-fn print_hex(b: u8) {
-    io::print_hex(STDOUT_FILENO, b as u64, 2);
+fn print_hex(out: Stdout, b: u8) {
+    let _ = print!(out; "{b:02x}");
 }
 
 // Bytes in hex.
-fn print_bytes(s: &[u8]) {
+fn print_bytes(out: Stdout, s: &[u8]) {
     let mut i = 0;
     while i < s.len() {
-        print_hex(s[i]);
+        print_hex(out, s[i]);
         i += 1;
     }
-    print(b" ");
+    print(out, b" ");
 }
 
 // A payload in hex, `-` where it is empty.
-fn print_payload(s: &[u8]) {
+fn print_payload(out: Stdout, s: &[u8]) {
     if s.len() == 0 {
-        print(b"- ");
+        print(out, b"- ");
         return;
     }
-    print_bytes(s);
+    print_bytes(out, s);
 }
 
 // From, to, code and payload of a message; of anything else how many bytes were lost.
-fn print_read(got: &[u8], lent: &[u8]) {
+fn print_read(out: Stdout, got: &[u8], lent: &[u8]) {
     if byte_at(got, ANSWER) != MESSAGE {
-        print_number(byte_at(got, LOST));
+        print_number(out, byte_at(got, LOST));
         return;
     }
-    print_bytes(part(got, FROM, PAIR));
-    print_bytes(part(got, TO, PAIR));
-    print_bytes(part(got, CODE, PAIR));
-    print_payload(part(lent, 0, size_at(got, PAYLOAD_SIZE)));
+    print_bytes(out, part(got, FROM, PAIR));
+    print_bytes(out, part(got, TO, PAIR));
+    print_bytes(out, part(got, CODE, PAIR));
+    print_payload(out, part(lent, 0, size_at(got, PAYLOAD_SIZE)));
 }
 
 // Whether a record of that answer is read and, where that is a message, written as its document says.
@@ -123,27 +122,28 @@ fn agrees(reads: bool, writes: bool, answer: u8) -> bool {
     reads & (writes | (answer != MESSAGE))
 }
 
-fn print_verdict(agrees: bool, answer: u8) {
+fn print_verdict(out: Stdout, agrees: bool, answer: u8) {
     if !agrees {
-        print(b"differs\n");
+        print(out, b"differs\n");
         return;
     }
     if answer == MESSAGE {
-        print(b"ok\n");
+        print(out, b"ok\n");
         return;
     }
-    print(b"damaged\n");
+    print(out, b"damaged\n");
 }
 
 // The line of a record, of which `got` was read, its payload in `lent`, and `again` was written.
-fn report(record: &[u8], got: &[u8], lent: &[u8], again: &[u8]) {
-    print(b"00");
-    print_number(byte_at(record, DOCUMENT));
-    print_number(byte_at(record, NUMBER));
-    print_number(byte_at(got, ANSWER));
-    print_read(got, lent);
+fn report(out: Stdout, record: &[u8], got: &[u8], lent: &[u8], again: &[u8]) {
+    print(out, b"00");
+    print_number(out, byte_at(record, DOCUMENT));
+    print_number(out, byte_at(record, NUMBER));
+    print_number(out, byte_at(got, ANSWER));
+    print_read(out, got, lent);
     let answer = byte_at(record, TO_READ);
     print_verdict(
+        out,
         agrees(reads(record, got, lent), writes(record, again), answer),
         answer,
     );
@@ -160,7 +160,7 @@ fn port_of(document: u8) -> u8 {
 }
 
 // Reads the frame and writes the message of a record. No frame has the number 0: behind the records there is nothing to try.
-fn try_record(record: &[u8]) {
+fn try_record(out: Stdout, record: &[u8]) {
     if byte_at(record, NUMBER) == 0 {
         return;
     }
@@ -175,15 +175,15 @@ fn try_record(record: &[u8]) {
         &mut again,
     );
     let n = written.length();
-    report(record, &got, &lent, part(&again, 0, n));
+    report(out, record, &got, &lent, part(&again, 0, n));
 }
 
-fn main() {
-    let mut input = io::large_buffer();
-    io::read_full(STDIN_FILENO, &mut input);
+fn main(rt: HostRuntime) {
+    let mut input = [0u8; LARGE];
+    read_full(&mut rt.stdin(), &mut input);
     let mut i = 0;
     while i < RECORDS {
-        try_record(part(&input, RECORD * i, RECORD));
+        try_record(rt.stdout(), part(&input, RECORD * i, RECORD));
         i += 1;
     }
 }
