@@ -31,14 +31,14 @@ returns-then-wide-len c =
     let a = c.args in
     ap told c.damaged-then-wide-len.ensures
     ∙ judged_size a.count a.came a.low a.high a.held.now c.requires (sym c.sized.ensures ∙ c.if-not-sized.false) (sym c.begins.ensures ∙ c.if-not-begins.false)
-        (λ e. c.if-wide-len.true (c.wide.ensures ∙ e ∙ less_ten a.count))
+    (λ e. c.if-wide-len.true (c.wide.ensures ∙ e ∙ less_ten a.count))
 
 pub returns-then-not-ends : goal.returns-then-not-ends
 returns-then-not-ends c =
     let a = c.args in
     ap told c.damaged-then-not-ends.ensures
     ∙ judged_sum a.count a.came a.low a.high a.held.now c.requires (sym c.sized.ensures ∙ c.if-not-sized.false) (sym c.begins.ensures ∙ c.if-not-begins.false)
-        (sym c.wide.ensures ∙ c.if-wide-len.false ∙ sym (less_ten a.count)) (sym c.ends.ensures ∙ c.if-not-ends.true)
+    (sym c.wide.ensures ∙ c.if-wide-len.false ∙ sym (less_ten a.count)) (sym c.ends.ensures ∙ c.if-not-ends.true)
 
 -- the header that was made
 pub returns : goal.returns
@@ -48,4 +48,4 @@ returns c =
     rw (c.word-source.ensures, c.word-destination.ensures, less_ten a.count) in
     ap (λ (h : Header). told (Read h)) read
     ∙ judged_message a.count a.came a.low a.high a.held.now c.requires (sym c.sized.ensures ∙ c.if-not-sized.false) (sym c.begins.ensures ∙ c.if-not-begins.false)
-        (sym c.wide.ensures ∙ c.if-wide-len.false ∙ sym (less_ten a.count)) (sym c.ends.ensures ∙ c.if-not-ends.false)
+    (sym c.wide.ensures ∙ c.if-wide-len.false ∙ sym (less_ten a.count)) (sym c.ends.ensures ∙ c.if-not-ends.false)

@@ -2,7 +2,7 @@ use mathlib.Core.Path.{◌≡◌, refl, sym, ◌∙◌, ap, subst}
 use mathlib.Core.Option.{none, some}
 use mathlib.Core.List.{List}
 use Prim.Native.Nat.{ℕ, ◌+◌, ◌-◌, ◌<◌, ◌≤◌}
-use lib.ListN.{length, get_or, length-set}
+use lib.ListN.{get_or, length-set}
 use native.Mathlib.Omega.{arith}
 use Rattle.stream.specs.Event.{Event}
 use Rattle.stream.specs.Pieces.{Called, scan, scan_from}
@@ -13,7 +13,7 @@ use Rattle.comlynx.specs.Machine.{too_many, inside, escaped, broken, more, on, m
 use Rattle.comlynx.specs.declared.reader.Reader.{Reader}
 use Rattle.comlynx.specs.declared.reader.Move.{Move}
 use Rattle.comlynx.specs.declared.reader.Move.TheVariants.{Skip, Open, Mark, Spoil, Keep, Over, Close, Fail}
-use Rattle.comlynx.proofs.StageRanges.{Range, within, range_of, in_range_lem, range_count, more_most, more_more, Asked, asked}
+use Rattle.comlynx.proofs.StageRanges.{within, range_of, in_range_lem, range_count, more_most, more_more, Asked, asked}
 use Rattle.comlynx.proofs.reader.run_in.Goals as goal
 use Rattle.comlynx.proofs.reader.run_in.Goals.{After-advance-m}
 
