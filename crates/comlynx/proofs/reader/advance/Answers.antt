@@ -1,6 +1,5 @@
 use borrow.Author.Tests.{eq-eqb, ne_eqb}
 use Rattle.comlynx.specs.Machine.{advance_of}
-use borrow.Author.Rules.{rules}
 use Rattle.comlynx.proofs.reader.advance.Goals as goal
 
 pub returns-then-b-eq-FLAG : goal.returns-then-b-eq-FLAG

@@ -1,9 +1,6 @@
 use Rattle.comlynx.specs.Inside.{Filled}
-use Rattle.comlynx.proofs.FillScans.{filled_none, filled_one, filled_more, plain_of}
-use native.Mathlib.Omega.{arith}
 use Prim.Native.Nat.{◌+◌, ◌-◌, ◌≤◌}
 use mathlib.Core.Path.{◌≡◌}
-use borrow.Author.Rules.{rules}
 use Rattle.comlynx.proofs.reader.fill_bytes.Given as goal
 
 abbrev pub invariant-loop-i : goal.invariant-loop-i

@@ -1,15 +1,12 @@
-use Rattle.comlynx.specs.Inside.{Filled}
 use Rattle.comlynx.proofs.FillScans.{filled_none, filled_more}
 use native.Mathlib.Omega.{arith}
-use Prim.Native.Nat.{◌+◌, ◌-◌, ◌≤◌}
-use mathlib.Core.Path.{◌≡◌, ◌∙◌}
-use borrow.Author.Rules.{rules}
+use mathlib.Core.Path.{◌∙◌}
 use Rattle.comlynx.proofs.reader.fill_runs.Goals as goal
 
 pub loop-i-init : goal.loop-i-init
 loop-i-init c =
     let a = c.args in
-    (omega arith, omega arith, filled_none a.count a.held-1.now a.piece.now a.from (omega arith) (omega arith))
+    (omega arith, omega arith, filled_none a.count a.held.now a.piece.now a.from (omega arith) (omega arith))
 
 pub take_in-requires : goal.take_in-requires
 take_in-requires c =
@@ -26,7 +23,7 @@ loop-i-preserved d =
     let l = c.loop-i in
     let a = c.args in
     let f = l.invariant.2 in
-    (omega arith, omega (arith, f.forward), filled_more a.count a.held-1.now a.piece.now a.from l.i l.held-1 l.at _ _ l.invariant.1 f c.take_in.ensures)
+    (omega arith, omega (arith, f.forward), filled_more a.count a.held.now a.piece.now a.from l.i l.held l.at _ _ l.invariant.1 f c.take_in.ensures)
 
 pub returns-after-loop-i : goal.returns-after-loop-i
 returns-after-loop-i c = (c.loop-i.invariant.0, c.loop-i.invariant.2)

@@ -1,10 +1,5 @@
-use Rattle.comlynx.specs.Inside.{run_length, AllPlain}
 use Rattle.comlynx.proofs.FillScans.{plain_more}
 use native.Mathlib.Omega.{arith}
-use Prim.Native.Nat.{◌-◌, ◌≤◌}
-use mathlib.Core.Path.{◌≡◌}
-use mathlib.Core.Bool.{true}
-use borrow.Author.Rules.{rules}
 use Rattle.comlynx.proofs.reader.plain.Goals as goal
 
 pub loop-k-init : goal.loop-k-init

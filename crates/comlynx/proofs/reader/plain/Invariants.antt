@@ -1,10 +1,7 @@
 use Rattle.comlynx.specs.Inside.{run_length, AllPlain}
-use Rattle.comlynx.proofs.FillScans.{plain_more}
-use native.Mathlib.Omega.{arith}
 use Prim.Native.Nat.{◌-◌, ◌≤◌}
 use mathlib.Core.Path.{◌≡◌}
 use mathlib.Core.Bool.{true}
-use borrow.Author.Rules.{rules}
 use Rattle.comlynx.proofs.reader.plain.Given as goal
 
 abbrev pub invariant-loop-k : goal.invariant-loop-k

@@ -3,10 +3,9 @@ use native.Mathlib.Nat.{add_assoc}
 use Rattle.comlynx.specs.Inside.{run_length, Filled}
 use Rattle.comlynx.proofs.FillScans.{filled_none, filled_one, filled_more}
 use native.Mathlib.Omega.{arith}
-use Prim.Native.Nat.{ℕ, ◌+◌, ◌-◌, ◌≤◌}
+use Prim.Native.Nat.{ℕ, ◌+◌}
 use mathlib.Core.Path.{◌≡◌}
 use lib.ListN.{get_or, set}
-use borrow.Author.Rules.{rules}
 use Rattle.comlynx.proofs.reader.take_in.Goals as goal
 
 pub loop-k-init : goal.loop-k-init

@@ -1,9 +1,6 @@
 use lib.ListN.{length}
 use Rattle.comlynx.specs.Inside.{Searched}
-use Rattle.comlynx.proofs.SearchedParts.{absent_one, searched_on}
-use native.Mathlib.Omega.{arith}
 use Prim.Native.Nat.{◌-◌}
-use borrow.Author.Rules.{rules}
 use Rattle.comlynx.proofs.search.byte_from.Given as goal
 
 abbrev pub invariant-loop-i : goal.invariant-loop-i

@@ -1,10 +1,5 @@
-use Rattle.comlynx.specs.Inside.{Absent}
 use Rattle.comlynx.proofs.SearchedParts.{absent_tested}
 use native.Mathlib.Omega.{arith}
-use Prim.Native.Nat.{◌+◌, ◌-◌, ◌≤◌}
-use mathlib.Core.Path.{◌≡◌}
-use mathlib.Core.Bool.{true}
-use borrow.Author.Rules.{rules}
 use Rattle.comlynx.proofs.search.clear.Goals as goal
 
 pub loop-k-init : goal.loop-k-init

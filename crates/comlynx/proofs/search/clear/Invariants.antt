@@ -1,10 +1,7 @@
 use Rattle.comlynx.specs.Inside.{Absent}
-use Rattle.comlynx.proofs.SearchedParts.{absent_tested}
-use native.Mathlib.Omega.{arith}
 use Prim.Native.Nat.{◌+◌, ◌-◌, ◌≤◌}
 use mathlib.Core.Path.{◌≡◌}
 use mathlib.Core.Bool.{true}
-use borrow.Author.Rules.{rules}
 use Rattle.comlynx.proofs.search.clear.Given as goal
 
 abbrev pub invariant-loop-k : goal.invariant-loop-k

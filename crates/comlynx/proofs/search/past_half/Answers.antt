@@ -1,6 +1,5 @@
 use Rattle.comlynx.proofs.SearchedParts.{absent_none}
 use native.Mathlib.Omega.{arith}
-use borrow.Author.Rules.{rules}
 use Rattle.comlynx.proofs.search.past_half.Goals as goal
 
 pub returns-then-s-from-lt-HALF : goal.returns-then-s-from-lt-HALF

@@ -1,9 +1,5 @@
-use Rattle.comlynx.specs.Inside.{Searched}
 use Rattle.comlynx.proofs.SearchedParts.{absent_none, searched_on}
 use native.Mathlib.Omega.{arith}
-use Prim.Native.Nat.{◌-◌}
-use lib.ListN.{length}
-use borrow.Author.Rules.{rules}
 use Rattle.comlynx.proofs.search.past_runs.Goals as goal
 
 pub loop-i-init : goal.loop-i-init

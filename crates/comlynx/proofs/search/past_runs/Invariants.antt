@@ -1,9 +1,6 @@
 use Rattle.comlynx.specs.Inside.{Searched}
-use Rattle.comlynx.proofs.SearchedParts.{absent_none, searched_on}
-use native.Mathlib.Omega.{arith}
 use Prim.Native.Nat.{◌-◌}
 use lib.ListN.{length}
-use borrow.Author.Rules.{rules}
 use Rattle.comlynx.proofs.search.past_runs.Given as goal
 
 abbrev pub invariant-loop-i : goal.invariant-loop-i

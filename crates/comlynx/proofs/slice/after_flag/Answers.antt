@@ -1,5 +1,4 @@
 use borrow.Author.Tests.{eq-eqb, ne_eqb}
-use borrow.Author.Rules.{rules}
 use Rattle.comlynx.proofs.slice.after_flag.Goals as goal
 
 pub returns-then-place-eq0 : goal.returns-then-place-eq0

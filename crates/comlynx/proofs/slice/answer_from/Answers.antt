@@ -22,7 +22,6 @@ use Rattle.comlynx.proofs.StretchJudged.{judged}
 use Rattle.comlynx.proofs.FlagsSearched.{none_found, one_found, some_between}
 use Prim.Native.Nat.{ℕ, ◌+◌, ◌-◌}
 use native.Mathlib.Omega.{arith}
-use borrow.Author.Rules.{rules}
 use Rattle.comlynx.proofs.slice.answer_from.Goals as goal
 
 by_found : (slice lent later : List ℕ) (place : ℕ) (r : Found) (o : Option (Settled (Event Message))) → rule (known_at slice place) (drop place slice) ≡ o
@@ -39,41 +38,29 @@ shows r place after t n k e =
     ap {B = Asked Header} (λ (x : ℕ). record { number = x; told = told r; place = place }) n
     ∙ ap₂ {C = Asked Header} (λ (x : Told Header) (y : ℕ). record { number = Event.number t; told = x; place = y }) k e
 
--- the search has ended: the call's start, and the ends of the stretch
-abbrev start : goal.After-byte_from-close → goal.Start
-start k = k.before.before.before.before.before
-
-abbrev slice : goal.After-byte_from-close → List ℕ
-slice k = (start k).args.slice.now
-
-abbrev first : goal.After-byte_from-close → ℕ
-first k = k.past_flags-first.result
-
-abbrev close : goal.After-byte_from-close → ℕ
-close k = k.byte_from-close.result
-
 pub returns-then-slice-close : goal.returns-then-slice-close
 returns-then-slice-close c =
-    let k = c.before in
-    let a = (start k).args in
-    by_found (slice k) a.lent-1.now a.lent-1.now a.place (record { answer = Done; place = length (slice k) }) none
-    (none_found (slice k) a.place k.opened.result (first k) (close k) k.opened.ensures k.past_flags-first.ensures k.byte_from-close.ensures c.if-slice-close.true)
+    let s = c.args.slice.now in
+    let a = c.args in
+    by_found s a.lent.now a.lent.now a.place (record { answer = Done; place = length s }) none
+    (none_found s a.place c.opened.result c.past_flags-first.result c.byte_from-close.result c.opened.ensures c.past_flags-first.ensures c.byte_from-close.ensures c.if-slice-close.true)
     refl refl
 
 pub returns : goal.returns
 returns c =
-    let j = c in
-    let e = j in
-    let k = e.before.before.before.before.before.before in
-    let a = (start k).args in
-    let p = k.past_flags-first.ensures in
-    let w = part (first k) (close k) (slice k) in
-    let lt = e.if-slice-close.false in
-    let some-there = some_between (slice k) (first k) (close k) k.byte_from-close.ensures lt (p.3 (omega (arith, k.byte_from-close.ensures.0.0))) in
-    let whole = judged w a.lent-1.now (start k).requires.1 (λ z. omega (arith, some-there)) in
-    let is = j.judge_stretch-answer.ensures in
-    let after : a.place + (close k + 1 - a.place) ≡ close k + 1 = omega (arith, k.opened.ensures.0, p.0, k.byte_from-close.ensures.0.0) in
-    by_found (slice k) a.lent-1.now _ a.place (record { answer = j.judge_stretch-answer.result; place = close k + 1 }) (some (record { event = judge w; used = close k + 1 - a.place }))
-    (one_found (slice k) a.place k.opened.result (first k) (close k) k.opened.ensures p k.byte_from-close.ensures lt)
-    (shows j.judge_stretch-answer.result (close k + 1) (a.place + (close k + 1 - a.place)) (gives (judge w)) (is.0 ∙ ap Event.number whole) (is.1 ∙ ap (retold header) whole) (sym after))
-    (is.2 ∙ ap (λ (t : Told Message). delivered (λ (m : Message). m.payload) t a.lent-1.now) whole)
+    let s = c.args.slice.now in
+    let a = c.args in
+    let first = c.past_flags-first.result in
+    let close = c.byte_from-close.result in
+    let p = c.past_flags-first.ensures in
+    let q = c.byte_from-close.ensures in
+    let w = part first close s in
+    let lt = c.if-slice-close.false in
+    let some-there = some_between s first close q lt (p.3 (omega (arith, q.0.0))) in
+    let whole = judged w a.lent.now c.requires.1 (λ z. omega (arith, some-there)) in
+    let is = c.judge_stretch-answer.ensures in
+    let after : a.place + (close + 1 - a.place) ≡ close + 1 = omega (arith, c.opened.ensures.0, p.0, q.0.0) in
+    by_found s a.lent.now _ a.place (record { answer = c.judge_stretch-answer.result; place = close + 1 }) (some (record { event = judge w; used = close + 1 - a.place }))
+    (one_found s a.place c.opened.result first close c.opened.ensures p q lt)
+    (shows c.judge_stretch-answer.result (close + 1) (a.place + (close + 1 - a.place)) (gives (judge w)) (is.0 ∙ ap Event.number whole) (is.1 ∙ ap (retold header) whole) (sym after))
+    (is.2 ∙ ap (λ (t : Told Message). delivered (λ (m : Message). m.payload) t a.lent.now) whole)

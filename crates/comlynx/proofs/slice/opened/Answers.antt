@@ -6,7 +6,6 @@ use Rattle.comlynx.specs.Rules.{within, rule}
 use Rattle.comlynx.proofs.FlagsSearched.{before_searched}
 use Prim.Native.Nat.{ℕ, ◌-◌}
 use native.Mathlib.Omega.{arith}
-use borrow.Author.Rules.{rules}
 use Rattle.comlynx.proofs.slice.opened.Goals as goal
 
 -- where a flag was just seen the stretch begins at the place

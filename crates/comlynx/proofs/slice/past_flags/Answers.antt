@@ -1,11 +1,5 @@
-use lib.ListN.{length, drop}
-use Rattle.comlynx.specs.Rules.{within}
 use Rattle.comlynx.proofs.FlagsSearched.{flags_none, flags_more}
 use native.Mathlib.Omega.{arith}
-use Prim.Native.Nat.{ℕ, ◌+◌, ◌-◌, ◌≤◌}
-use mathlib.Core.Path.{◌≡◌}
-use mathlib.Core.List.{[]}
-use borrow.Author.Rules.{rules}
 use Rattle.comlynx.proofs.slice.past_flags.Goals as goal
 
 pub loop-i-init : goal.loop-i-init

@@ -1,48 +1,32 @@
--- the stretch is judged: the call's start, and as what
-use Prim.Native.Nat.{min, ◌≤◌}
-use mathlib.Core.Path.{◌≡◌, ap, ◌∙◌}
+-- the stretch is judged: as what, and what the answer delivers
+use mathlib.Core.Path.{ap, ◌∙◌}
 use mathlib.Core.Option.{some}
-use lib.ListN.{length}
+use native.Mathlib.Omega.{arith}
 use Rattle.stream.specs.Event.{Event, gives}
 use Rattle.stream.specs.Call.{delivered, retold}
-use Rattle.comlynx.specs.Wire.{Message, body_max}
-use Rattle.comlynx.specs.Rules.{judge}
+use Rattle.comlynx.specs.Wire.{Message}
 use Rattle.comlynx.specs.Machine.{closed}
 use Rattle.comlynx.specs.Reader.{header}
 use Rattle.comlynx.proofs.JudgedIsDelivered.{AnswerDelivers, closed_delivers}
 use Rattle.comlynx.proofs.StretchUnstuffed.{plain_judged}
-use native.Mathlib.Omega.{arith}
-use borrow.Author.Rules.{rules}
 use Rattle.comlynx.proofs.stretch.judge_plain.Goals as goal
+use Rattle.comlynx.proofs.stretch.judge_plain.Goals.{After-judge_closed-answer}
 
-abbrev start : goal.After-judge_closed-answer → goal.Start
-start c = c.before.before.before.before.before
-
-there : (c : goal.After-came_of) → min c.least-count.result body_max ≤ length c.args.stretch.now
-there c = omega (arith, c.least-count.ensures)
-
-is : (c : goal.After-judge_closed-answer) → closed c.came_of.result c.least-count.result (start c).args.stretch.now ≡ judge (start c).args.stretch.now
-is c = plain_judged (start c).args.stretch.now c.least-count.result c.came_of.result (start c).requires.0 c.least-count.ensures c.came_of.ensures
-
--- and what the answer delivers
-deliverable : (c : goal.After-judge_closed-answer)
-    → (let a = (start c).args in AnswerDelivers a.stretch.now a.lent-1.now c.judge_closed-answer.result (some (closed c.came_of.result c.least-count.result a.stretch.now)))
+deliverable : (c : After-judge_closed-answer)
+    → (let a = c.args in AnswerDelivers a.stretch.now a.lent.now c.judge_closed-answer.result (some (closed c.came_of.result c.least-count.result a.stretch.now)))
 deliverable c =
-    let a = (start c).args in
-    closed_delivers c.least-count.result c.came_of.result a.stretch.now a.lent-1.now c.judge_closed-answer.result (there c.before) c.judge_closed-answer.ensures
-
-pub judge_closed-answer-requires : goal.judge_closed-answer-requires
-judge_closed-answer-requires c = there c
+    let a = c.args in
+    closed_delivers c.least-count.result c.came_of.result a.stretch.now a.lent.now c.judge_closed-answer.result (omega (arith, c.least-count.ensures)) c.judge_closed-answer.ensures
 
 pub deliver-requires : goal.deliver-requires
 deliver-requires c =
-    let k = c.before in
-    ((deliverable k).0, (deliverable k).1, (start k).requires.1)
+    let d = deliverable (goal.at.deliver-requires c).After-judge_closed-answer in
+    (d.0, d.1, c.requires.1)
 
 pub returns : goal.returns
 returns c =
-    let d = c in
-    let k = d.before.before.before.before in (
-      k.judge_closed-answer.ensures ∙ ap (λ (e : Event Message). retold header (gives e)) (is k),
-      d.deliver.ensures ∙ (deliverable k).2 ∙ ap (λ (e : Event Message). delivered (λ (m : Message). m.payload) (gives e) (start k).args.lent.now) (is k),
+    let a = c.args in
+    let is = plain_judged a.stretch.now c.least-count.result c.came_of.result c.requires.0 c.least-count.ensures c.came_of.ensures in (
+      c.judge_closed-answer.ensures ∙ ap (λ (e : Event Message). retold header (gives e)) is,
+      c.deliver.ensures ∙ (deliverable (goal.at.returns c).After-judge_closed-answer).2 ∙ ap (λ (e : Event Message). delivered (λ (m : Message). m.payload) (gives e) a.lent.now) is,
     )

@@ -1,47 +1,25 @@
--- the stretch is unstuffed: the call's start, and what is held
-use mathlib.Core.Path.{◌≡◌, ap, ◌∙◌}
-use mathlib.Core.List.{List}
-use lib.ListN.{length}
+-- the stretch is unstuffed and judged: what the answer delivers
+use mathlib.Core.Path.{ap, ◌∙◌}
 use Rattle.stream.specs.Event.{Told, outcome}
 use Rattle.stream.specs.Call.{delivered, retold}
-use Rattle.comlynx.specs.Wire.{Message, body_max}
+use Rattle.comlynx.specs.Wire.{Message}
 use Rattle.comlynx.specs.Reader.{header}
 use Rattle.comlynx.specs.Inside.{event_of}
 use Rattle.comlynx.proofs.JudgedIsDelivered.{AnswerDelivers, end_delivers}
-use Prim.Native.Nat.{ℕ}
-use borrow.Author.Rules.{rules}
 use Rattle.comlynx.proofs.stretch.judge_stuffed.Goals as goal
+use Rattle.comlynx.proofs.stretch.judge_stuffed.Goals.{After-judge-answer}
 
-abbrev start : goal.After-unstuff-end → goal.Start
-start c = c.before.before.before.before
-
-abbrev held : goal.After-unstuff-end → List ℕ
-held c = c.unstuff-end.new.held.1.0
-
-full : (c : goal.After-unstuff-end) → length (held c) ≡ body_max
-full c = c.unstuff-end.ensures.0
-
--- it is judged: what the answer delivers
-abbrev unstuffed : goal.After-judge-answer → goal.After-unstuff-end
-unstuffed c = c.before.before.before
-
-deliverable : (c : goal.After-judge-answer) → AnswerDelivers (held (unstuffed c)) (start (unstuffed c)).args.lent.now c.judge-answer.result (event_of (unstuffed c).unstuff-end.result (held (unstuffed c)))
-deliverable c = end_delivers (unstuffed c).unstuff-end.result (held (unstuffed c)) (start (unstuffed c)).args.lent.now c.judge-answer.result (full (unstuffed c)) c.judge-answer.ensures
-
-pub judge-answer-requires : goal.judge-answer-requires
-judge-answer-requires c = full c.before.before
+deliverable : (c : After-judge-answer) → AnswerDelivers c.unstuff-end.new.held c.args.lent.now c.judge-answer.result (event_of c.unstuff-end.result c.unstuff-end.new.held)
+deliverable c = end_delivers c.unstuff-end.result c.unstuff-end.new.held c.args.lent.now c.judge-answer.result c.unstuff-end.ensures.0 c.judge-answer.ensures
 
 pub deliver-requires : goal.deliver-requires
 deliver-requires c =
-    let k = c.before.before in
-    ((deliverable k).0, (deliverable k).1, (start (unstuffed k)).requires.1)
+    let d = deliverable (goal.at.deliver-requires c).After-judge-answer in
+    (d.0, d.1, c.requires.1)
 
 pub returns : goal.returns
 returns c =
-    let d = c in
-    let k = d.before.before.before.before.before in
-    let u = unstuffed k in
-    let is = ap outcome u.unstuff-end.ensures.1 in (
-      k.judge-answer.ensures ∙ ap (retold header) is,
-      d.deliver.ensures ∙ (deliverable k).2 ∙ ap (λ (t : Told Message). delivered (λ (m : Message). m.payload) t (start u).args.lent.now) is,
+    let is = ap outcome c.unstuff-end.ensures.1 in (
+      c.judge-answer.ensures ∙ ap (retold header) is,
+      c.deliver.ensures ∙ (deliverable (goal.at.returns c).After-judge-answer).2 ∙ ap (λ (t : Told Message). delivered (λ (m : Message). m.payload) t c.args.lent.now) is,
     )

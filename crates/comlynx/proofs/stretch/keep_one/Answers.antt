@@ -1,7 +1,6 @@
 use mathlib.Core.List.{[], ◌∷◌}
 use Rattle.comlynx.proofs.StretchUnstuffed.{held_kept, held_over}
 use native.Mathlib.Omega.{arith}
-use borrow.Author.Rules.{rules}
 use Rattle.comlynx.proofs.stretch.keep_one.Goals as goal
 
 pub returns-then-count-ge-BODY : goal.returns-then-count-ge-BODY

@@ -2,7 +2,6 @@ use lib.ListN.{length, get_or-eq_default}
 use native.Mathlib.Omega.{arith}
 use Prim.Native.Nat.{◌+◌, ◌≤◌}
 use borrow.Author.Tests.{eq-eqb, ne_eqb}
-use borrow.Author.Rules.{rules}
 use Rattle.comlynx.proofs.stretch.pair_at.Goals as goal
 
 pub returns-then-stretch-at-lt2 : goal.returns-then-stretch-at-lt2

@@ -1,13 +1,9 @@
 -- a front is taken in, and behind it stands an escape
 use lib.ListN.{length, get_or}
-use lib.Seq.{length-take-le}
-use mathlib.Core.Path.{◌≡◌, sym}
-use mathlib.Core.List.{List}
+use mathlib.Core.Path.{◌≡◌}
 use Rattle.comlynx.specs.Wire.{escape}
-use Rattle.comlynx.proofs.StretchUnstuffed.{SoFar, so_far_first, so_far_part, so_far_pair, so_far_broken, so_far_all, pair_within}
-use native.Mathlib.Omega.{arith}
-use Prim.Native.Nat.{ℕ, ◌+◌, ◌-◌, ◌<◌}
-use borrow.Author.Rules.{rules}
+use Rattle.comlynx.proofs.StretchUnstuffed.{SoFar}
+use Prim.Native.Nat.{◌-◌, ◌<◌}
 use Rattle.comlynx.proofs.stretch.unstuff.Given as goal
 
 abbrev pub invariant-loop-i : goal.invariant-loop-i

@@ -6,7 +6,6 @@ use Rattle.comlynx.proofs.StoresMakeFrame.{stuffed_flag, stuffed_escape, stuffed
 use native.Mathlib.Omega.{arith}
 use mathlib.Core.Path.{◌≡◌, ap}
 use lib.ListN.{length}
-use borrow.Author.Rules.{rules}
 use Rattle.comlynx.proofs.writer.put.Goals as goal
 
 as_flag : (c : goal.Then-b-eq-FLAG) → stuffed (c.args.b ∷ []) ≡ escape ∷ flag_pair ∷ []

@@ -1,12 +1,9 @@
 use mathlib.Core.List.{[], ◌∷◌}
 use lib.Seq.{sets}
-use Rattle.comlynx.specs.Wire.{stuffed}
 use Rattle.comlynx.proofs.StoresMakeFrame.{stored_length, left_length, left_none, left_stored}
 use native.Mathlib.Omega.{arith}
-use Prim.Native.Nat.{◌+◌, ◌-◌, ◌≤◌}
-use mathlib.Core.Path.{◌≡◌, refl, sym, ◌∙◌, ap}
-use lib.ListN.{length, get_or, drop}
-use borrow.Author.Rules.{rules}
+use mathlib.Core.Path.{refl, sym, ◌∙◌, ap}
+use lib.ListN.{length, get_or}
 use Rattle.comlynx.proofs.writer.put_stuffed.Goals as goal
 
 pub loop-i-init : goal.loop-i-init
@@ -26,8 +23,8 @@ loop-i-preserved c =
     let p = c.put-to in (
       omega arith,
       omega (arith, left_length s l.i (omega arith), p.ensures.0),
-      stored_length (get_or s l.i 0 ∷ []) l.to l.lent-1 p.result _ p.ensures ∙ l.invariant.2,
-      left_stored s l.i l.to p.result l.lent-1 _ (omega arith) p.ensures ∙ l.invariant.3,
+      stored_length (get_or s l.i 0 ∷ []) l.to l.lent p.result _ p.ensures ∙ l.invariant.2,
+      left_stored s l.i l.to p.result l.lent _ (omega arith) p.ensures ∙ l.invariant.3,
     )
 
 pub shape_of-lent : goal.shape_of-lent
@@ -38,4 +35,4 @@ returns c =
     let l = c.loop-i in
     let s = c.args.s.now in
     let none = left_none s l.i c.loop-i-test.false in
-    (omega (arith, ap length none), sym (ap (sets l.lent-1 l.to) none) ∙ l.invariant.3)
+    (omega (arith, ap length none), sym (ap (sets l.lent l.to) none) ∙ l.invariant.3)

@@ -1,12 +1,8 @@
-use mathlib.Core.List.{[], ◌∷◌}
 use lib.Seq.{sets}
 use Rattle.comlynx.specs.Wire.{stuffed}
-use Rattle.comlynx.proofs.StoresMakeFrame.{stored_length, left_length, left_none, left_stored}
-use native.Mathlib.Omega.{arith}
 use Prim.Native.Nat.{◌+◌, ◌-◌, ◌≤◌}
-use mathlib.Core.Path.{◌≡◌, refl, sym, ◌∙◌, ap}
-use lib.ListN.{length, get_or, drop}
-use borrow.Author.Rules.{rules}
+use mathlib.Core.Path.{◌≡◌}
+use lib.ListN.{length, drop}
 use Rattle.comlynx.proofs.writer.put_stuffed.Given as goal
 
 abbrev pub invariant-loop-i : goal.invariant-loop-i

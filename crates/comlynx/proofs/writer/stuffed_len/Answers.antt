@@ -1,10 +1,8 @@
 use Rattle.comlynx.specs.Wire.{stuffed}
 use Rattle.comlynx.proofs.StoresMakeFrame.{stuffed_most, left_length, left_none}
 use native.Mathlib.Omega.{arith}
-use Prim.Native.Nat.{◌+◌, ◌-◌, ◌≤◌}
 use mathlib.Core.Path.{◌≡◌, ap}
-use lib.ListN.{length, drop}
-use borrow.Author.Rules.{rules}
+use lib.ListN.{length}
 use Rattle.comlynx.proofs.writer.stuffed_len.Goals as goal
 
 pub loop-i-init : goal.loop-i-init

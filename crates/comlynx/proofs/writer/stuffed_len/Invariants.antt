@@ -1,10 +1,7 @@
 use Rattle.comlynx.specs.Wire.{stuffed}
-use Rattle.comlynx.proofs.StoresMakeFrame.{stuffed_most, left_length, left_none}
-use native.Mathlib.Omega.{arith}
 use Prim.Native.Nat.{◌+◌, ◌-◌, ◌≤◌}
-use mathlib.Core.Path.{◌≡◌, ap}
+use mathlib.Core.Path.{◌≡◌}
 use lib.ListN.{length, drop}
-use borrow.Author.Rules.{rules}
 use Rattle.comlynx.proofs.writer.stuffed_len.Given as goal
 
 abbrev pub invariant-loop-i : goal.invariant-loop-i
