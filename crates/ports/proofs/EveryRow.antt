@@ -12,7 +12,6 @@ use Rattle.answers.specs.Refusal.{number as refusalNumber}
 use Rattle.answers.specs.declared.Refusal.{Refusal}
 use Rattle.stream.specs.Event.{refuses}
 use Rattle.stream.specs.Call.{retold}
-use Rattle.stream.specs.Family.{Family}
 use Rattle.stream.proofs.FamilyFacts.{Facts}
 use Rattle.comlynx.specs.Machine as ComlynxMachine
 use Rattle.comlynx.specs.Reader as ComlynxReader
