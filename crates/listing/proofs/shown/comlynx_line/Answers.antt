@@ -7,20 +7,10 @@ use Rattle.listing_text.specs.Lines.{Shown, too_long, message_line}
 use Rattle.listing_text.proofs.LineLengths.{not_too_long}
 use Rattle.listing.specs.Entries.{show_comlynx}
 use Rattle.listing.proofs.DrainReadsPiece.{put_line}
-use Rattle.listing.proofs.shown.comlynx_line.Goals.{Start}
 use Rattle.listing.proofs.shown.comlynx_line.Goals as goal
-
-abbrev given : Start → Shown
-given c = show_comlynx (join c.args.h c.args.payload.now)
-
-pub slice_bounds-message_2_2_1-end : goal.slice_bounds-message_2_2_1-end
-slice_bounds-message_2_2_1-end c =
-    let s = c in
-    simp length-take (omega (arith, s.requires.1))
 
 pub returns : goal.returns
 returns c =
-    let m = c in
-    let s = m.before.before.before.before.before.before.before.before.before.before.before in
-    let short = not_too_long (given s) (omega arith) (omega arith) (omega arith) (simp length-take (omega (arith, s.requires.0))) in
-    put_line (too_long (given s)) (message_line s.args.port (given s)) s.args.out.now _ m.message_2_2_1.result _ m.message_2_2_1.ensures short s.requires.2 c.length.ensures
+    let given : Shown = show_comlynx (join c.args.h c.args.payload.now) in
+    let short = not_too_long given (omega arith) (omega arith) (omega arith) (simp length-take (omega (arith, c.requires.0))) in
+    put_line (too_long given) (message_line c.args.port given) c.args.out.now _ c.message_2_2_1.result _ c.message_2_2_1.ensures short c.requires.2 c.length.ensures
