@@ -1,7 +1,7 @@
 """What the scripts of bench/ share: the kit, its programs, and how instructions are counted.
 
-Programs are for x86-64. There `perf` counts, or valgrind where perf may not; elsewhere the kit's emulator, whose log tells
-what it runs. No count is a time.
+Programs are for x86-64. There `perf` counts, or valgrind where perf may not; a kit for another machine may bring an emulator, whose log
+tells what it runs. No count is a time.
 """
 import os
 import platform
@@ -41,11 +41,10 @@ class Kit:
 
     def __init__(self):
         self.rt = tool("rt")
-        home = Path(os.environ.get("RATTLE_HOME") or Path(self.rt).resolve().parent.parent)
+        home = Path(self.rt).resolve().parent.parent
         self.machine = platform.machine()
-        self.own = home / "on" / self.machine
-        self.tools = self.own / "toolchain"
-        for part in (self.tools / "bin/clang", self.own / "bin/rattle-link", self.loader):
+        self.link, self.tools = home / "bin/rattle-link", home / "toolchain"
+        for part in (self.tools / "bin/clang", self.link, self.loader):
             if not part.exists():
                 raise Broken(f"the kit at {home} has no {part.relative_to(home)}")
 
@@ -57,16 +56,28 @@ class Kit:
         """Our program of that name and a C one, at paths of one length: where the stack begins hangs on that, and so do some counts."""
         into.mkdir()
         ours, plain = into / "ours", into / "them"
-        call([ROOT / "bin/small-board"] if small_board else [self.rt, "check", name], cwd=ROOT)
-        shutil.copy(ROOT / "target" / ("small-board/target" if small_board else "") / "bin" / name, ours)
-        call([self.tools / "bin/clang", f"--target={TARGET}", "-march=x86-64", "-O3", "-fPIE", "-Wall", "-Werror",
+        shutil.copy(self.small_board() if small_board else self.proved(name), ours)
+        # for the processor that rt builds for
+        call([self.tools / "bin/clang", f"--target={TARGET}", "-march=x86-64-v2", "-O3", "-fPIE", "-Wall", "-Werror",
               *(["-DSMALL_BOARD"] if small_board else []), "-c", ROOT / "bench" / source, "-o", into / "plain.o"])
-        call([self.own / "bin/rattle-link", "--target", TARGET, "--toolchain", self.tools, "-o", plain, into / "plain.o"])
+        call([self.link, "--target", TARGET, "--toolchain", self.tools, "-o", plain, into / "plain.o"])
         return ours, plain
+
+    def proved(self, name):
+        """Our program of that name: rt runs it, here on no input, only where it has proved it."""
+        ran = subprocess.run([self.rt, "run"], cwd=ROOT / "crates" / name, stdin=subprocess.DEVNULL, capture_output=True)
+        said = ran.stderr.decode(errors="replace").splitlines()
+        if not any(line.startswith(f"rt: running out/{name};") for line in said):
+            raise Broken("\n".join([f"{name} is not proved; the last words of `rt run`:", *said[-8:]]))
+        return ROOT / "crates" / name / "out" / name
+
+    def small_board(self):
+        call([ROOT / "bin/small-board"])
+        return ROOT / "target/small-board/sbrlist"
 
     @property
     def emulator(self):
-        """What runs programs for x86-64 on another machine."""
+        """What runs programs for x86-64 on another machine, where the kit has it."""
         found = self.tools / "bin/qemu-x86_64"
         return found if found.exists() else None
 

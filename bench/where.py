@@ -41,6 +41,8 @@ def kind(words):
 
 def runs(kit, program, text):
     """How often each instruction of the program ran, by its address in the file, and how many ran in the C library and its loader."""
+    if not kit.emulator:
+        raise Broken("the kit has no emulator, which --where takes")
     _, aside, times = traced(kit.emulator, kit.words(program), text, {"LD_DEBUG": "files"})
     found = re.search(rf"file={re.escape(str(program))} .*?base: 0x([0-9a-f]+)\s+size: 0x([0-9a-f]+)", aside, re.S)
     if not found:
