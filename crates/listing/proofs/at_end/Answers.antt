@@ -3,7 +3,6 @@ use mathlib.Core.Path.{refl, ap}
 use Rattle.listing.specs.Steps.{wants_more, at_end}
 use Rattle.listing.specs.Inside.{stop_of, finish}
 use Rattle.listing.proofs.StepMakes.{nothing}
-use borrow.Author.Rules.{rules}
 use Rattle.listing.proofs.at_end.Goals as goal
 
 pub returns-then-ended : goal.returns-then-ended

@@ -2,7 +2,6 @@
 use mathlib.Core.Path.{◌∙◌, ap}
 use Prim.Native.Nat.{ℕ}
 use Rattle.listing.specs.Inside.{finish}
-use borrow.Author.Rules.{rules}
 use Rattle.listing.proofs.over.Goals as goal
 
 pub returns : goal.returns

@@ -2,7 +2,6 @@
 use Rattle.listing_text.specs.Lines.{end_line}
 use Rattle.listing.specs.Inside.{stop_text}
 use Rattle.listing.proofs.StepMakes.{put_after, last_lines_lem}
-use borrow.Author.Rules.{rules}
 use Rattle.listing.proofs.put_last.Goals as goal
 
 pub returns : goal.returns
