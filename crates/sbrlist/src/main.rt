@@ -97,6 +97,13 @@ fn read_on<R: Read, E: Eprint>(
     }
 }
 
+// A write that failed says why; but nothing is said where nobody reads the output any more.
+fn say_why<E: Eprint>(e: io::Error, errors: &E) {
+    if e.kind() != ErrorKind::BrokenPipe {
+        let _ = eprintln!(errors; "sbrlist: standard output cannot be written: {e}");
+    }
+}
+
 // What stands in the output buffer up to `at` is written; whether it was. A write that fails says so.
 fn flush<W: Write, E: Eprint>(target: &mut W, errors: &E, out: &[u8], at: usize) -> bool
     requires { at ≤ length out.now }
@@ -106,7 +113,7 @@ fn flush<W: Write, E: Eprint>(target: &mut W, errors: &E, out: &[u8], at: usize)
     match target.write_all(&out[..at]) {
         Ok(()) => true,
         Err(e) => {
-            let _ = eprintln!(errors; "sbrlist: standard output cannot be written: {e}");
+            say_why(e, errors);
             false
         }
     }
