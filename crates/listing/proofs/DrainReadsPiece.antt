@@ -2,7 +2,7 @@
 -- Assumes nothing.
 use Prim.Native.Nat.{ℕ, ◌+◌, ◌-◌, ◌*◌, ◌≤◌, ◌<◌}
 use mathlib.Core.Path.{◌≡◌, refl, sym, ap, ◌∙◌, subst}
-use mathlib.Core.Bool.{Bool, true, false, cond, not}
+use mathlib.Core.Bool.{Bool, true, false, not}
 use mathlib.Core.Option.{Option, none, some}
 use mathlib.Core.List.{List, [], ◌∷◌, ◌++◌, map, append-nil, append_assoc}
 use lib.ListN.{length, take, drop, length-append, length-drop, drop_of_length-le}
@@ -15,7 +15,7 @@ use Rattle.answers.specs.Written.{length_in, Writes}
 use Rattle.answers.specs.declared.Written.{Written}
 use Rattle.stream.specs.Event.{Event, message, damage, Told, done, gives, refuses, outcome}
 use Rattle.stream.specs.Pieces.{Moved, Called, Ran, before, scan, calls}
-use Rattle.stream.specs.Call.{Seen, lent_least, unmoved, answered, called, retold, retells, Steps, seen_by}
+use Rattle.stream.specs.Call.{Seen, lent_least, unmoved, called, retold, retells, Steps}
 use Rattle.stream.proofs.CallsComeTo.{after, events, scan_after, scan_events, calls_is}
 use Rattle.stream.proofs.LoopScans.{scan_used, scan_uses}
 use Rattle.stream.proofs.PromiseOfStep.{in_room, steps_seen}

@@ -39,7 +39,7 @@ use Rattle.drives.specs.Reader as DrivesReader
 use Rattle.drives.specs.declared.reader.Reader as DrivesState
 use Rattle.drives.proofs.StageRanges as DrivesRange
 use Rattle.drives.proofs.FrameLimits.{sized_bounds}
-use Rattle.listing_text.specs.Lines.{Shown, decimal, message_line, damage_line}
+use Rattle.listing_text.specs.Lines.{Shown, decimal, damage_line}
 use Rattle.listing_text.proofs.FieldLengths.{decimal_8, decimal_10, decimal_16, decimal_most}
 use Rattle.listing_text.proofs.LineLengths.{message_most, damage_most}
 use Rattle.listing.specs.Entries.{show_comlynx, show_eversolar, show_fronius, show_drives, show_event, entry_line}

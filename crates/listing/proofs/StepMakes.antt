@@ -26,14 +26,14 @@ use Rattle.uplink.specs.Packet.{lead_length, piece_max, count_in, packet_at, IsR
 use Rattle.uplink.specs.Demands.{Within}
 use Rattle.uplink.specs.declared.Received.TheVariants as Received
 use Rattle.uplink.proofs.AcceptedIsWritten.{tested}
-use Rattle.ports.specs.Ports.{Seat, row_of, seat_at}
+use Rattle.ports.specs.Ports.{Seat, row_of}
 use Rattle.ports.specs.declared.Ports.{Ports}
 use Rattle.ports.proofs.EveryRow.{facts_of}
 use Rattle.ports.proofs.TableLaws.{same_seat}
 use Rattle.listing_text.specs.Lines.{stop_line, end_line}
 use Rattle.listing.specs.Entries.{show_event, last_lines}
 use Rattle.listing.specs.Steps.{Packet, packet_in, packets_max}
-use Rattle.listing.specs.Steps.{Fed, fed, readable_on, readable, Made, unmoved, wants_more, ends, takes, taking, no_packet, at_end, by_packet, going, in_range, room_least, made, Sound, listed, HandsBack}
+use Rattle.listing.specs.Steps.{Fed, readable_on, Made, unmoved, wants_more, ends, takes, taking, no_packet, at_end, by_packet, going, in_range, room_least, made, Sound, listed, HandsBack}
 use Rattle.listing.specs.Inside.{Put, Drains, stop_text, stop_of, took}
 use Rattle.listing.specs.declared.Listing.{Listing}
 use Rattle.listing.specs.declared.Listed.{Listed}

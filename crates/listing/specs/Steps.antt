@@ -11,7 +11,7 @@ use Rattle.uplink.specs.Packet.{lead_length, piece_max, port_in, count_in, packe
 use Rattle.ports.specs.Ports as Table
 use Rattle.ports.specs.Ports.{Seat, row_of, seat_at}
 use Rattle.ports.specs.declared.Ports.{Ports}
-use Rattle.listing_text.specs.Lines.{Shown, stop_line, end_line}
+use Rattle.listing_text.specs.Lines.{Shown}
 use Rattle.listing.specs.Entries.{show_event, entries_on, lines_of, messages_in, damages_in, last_lines}
 use Rattle.listing.specs.declared.Listing.{Listing}
 use Rattle.listing.specs.declared.Listed.{Listed}

@@ -2,7 +2,6 @@
 use native.Mathlib.Omega.{arith}
 use borrow.Author.Tests.{le-leb, lt-leb}
 use Rattle.listing.specs.Steps.{packets_max, in_range}
-use borrow.Author.Rules.{rules}
 use Rattle.listing.proofs.in_range.Goals as goal
 
 pub returns-then-packets-gt-PACKETS_MAX : goal.returns-then-packets-gt-PACKETS_MAX

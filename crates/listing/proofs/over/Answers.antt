@@ -1,6 +1,5 @@
 -- `over` meets its promise: by what the last lines are.
-use mathlib.Core.Path.{◌∙◌, ap}
-use Prim.Native.Nat.{ℕ}
+use mathlib.Core.Path.{ap}
 use Rattle.listing.specs.Inside.{finish}
 use Rattle.listing.proofs.over.Goals as goal
 

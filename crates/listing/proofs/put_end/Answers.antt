@@ -5,7 +5,6 @@ use mathlib.Core.Bool.{false}
 use Rattle.listing_text.specs.Lines.{end_line}
 use Rattle.listing_text.proofs.LineLengths.{end_most_lem}
 use Rattle.listing.proofs.DrainReadsPiece.{put_line}
-use borrow.Author.Rules.{rules}
 use Rattle.listing.proofs.put_end.Goals as goal
 
 pub returns : goal.returns

@@ -1,6 +1,5 @@
 -- `Listing::fresh` meets its promise: the readers are fresh.
 use mathlib.Core.Path.{refl}
-use borrow.Author.Rules.{rules}
 use Rattle.listing.proofs.Listing.fresh.Goals as goal
 
 pub returns : goal.returns

@@ -3,8 +3,8 @@ use Prim.Native.Nat.{ℕ, ◌+◌, ◌-◌, ◌*◌, ◌≤◌, ◌<◌}
 use mathlib.Core.Path.{◌≡◌, refl, sym, ap, ◌∙◌, subst}
 use mathlib.Core.Bool.{true, false}
 use mathlib.Core.Option.{Option}
-use mathlib.Core.List.{List, ◌++◌}
-use lib.ListN.{length, take, drop, length-drop, length-replicate, length-map}
+use mathlib.Core.List.{List}
+use lib.ListN.{length, take, drop, length-drop}
 use lib.Seq.{sets}
 use native.Mathlib.Nat.{add-zero}
 use native.Mathlib.Omega.{arith}
@@ -19,15 +19,14 @@ use Rattle.drives.specs.Reader.{in_range, header, told, shown, join, together, w
 use Rattle.drives.specs.declared.reader.Reader.{Reader}
 use Rattle.drives.specs.declared.reader.Header.{Header}
 use Rattle.drives.specs.declared.reader.Step.{Step}
-use Rattle.drives.specs.declared.reader.StepInPlace.{StepInPlace}
 use Rattle.drives.specs.declared.reader.Answer.{Answer}
-use Rattle.drives.specs.declared.reader.Answer.TheVariants.{Done, Message as Read, Damaged, Refused}
+use Rattle.drives.specs.declared.reader.Answer.TheVariants.{Done, Message as Read, Damaged}
 use Rattle.drives.proofs.FamilyFacts.{joins}
 use Rattle.uplink.specs.Packet.{piece_max}
 use Rattle.listing.specs.Entries.{show_drives}
 use Rattle.listing.specs.Steps.{room_least}
 use Rattle.listing.proofs.LinesFit.{line_for, per_byte, held_most, Weighs, drives_weight, drives_weighs, drives_heavy}
-use Rattle.listing.proofs.DrainReadsPiece.{rest, rest_length, into, message_for, damage_for, given, Went, went, spoils, Kept, begins, kept_length, line_used, line_uses, line_room, turns, ends, ends_spoilt}
+use Rattle.listing.proofs.DrainReadsPiece.{rest, rest_length, into, message_for, damage_for, given, Went, went, spoils, begins, line_used, line_uses, line_room, turns, ends, ends_spoilt}
 use Rattle.listing.proofs.drain.drain_drives.Invariants.{Keeps, reader_of}
 use Rattle.listing.proofs.drain.drain_drives.Goals.{After-step_in_place-s}
 use Rattle.listing.proofs.drain.drain_drives.Goals as goal

@@ -3,8 +3,8 @@ use Prim.Native.Nat.{ℕ, ◌+◌, ◌-◌, ◌*◌, ◌≤◌, ◌<◌}
 use mathlib.Core.Path.{◌≡◌, refl, sym, ap, ◌∙◌, subst}
 use mathlib.Core.Bool.{true, false}
 use mathlib.Core.Option.{Option}
-use mathlib.Core.List.{List, ◌++◌}
-use lib.ListN.{length, take, drop, length-drop, length-replicate, length-map}
+use mathlib.Core.List.{List}
+use lib.ListN.{length, take, drop, length-drop}
 use lib.Seq.{sets}
 use native.Mathlib.Nat.{add-zero}
 use native.Mathlib.Omega.{arith}
@@ -19,15 +19,14 @@ use Rattle.eversolar.specs.Reader.{in_range, header, told, shown, join, together
 use Rattle.eversolar.specs.declared.reader.Reader.{Reader}
 use Rattle.eversolar.specs.declared.reader.Header.{Header}
 use Rattle.eversolar.specs.declared.reader.Step.{Step}
-use Rattle.eversolar.specs.declared.reader.StepInPlace.{StepInPlace}
 use Rattle.eversolar.specs.declared.reader.Answer.{Answer}
-use Rattle.eversolar.specs.declared.reader.Answer.TheVariants.{Done, Message as Read, Damaged, Refused}
+use Rattle.eversolar.specs.declared.reader.Answer.TheVariants.{Done, Message as Read, Damaged}
 use Rattle.eversolar.proofs.FamilyFacts.{joins}
 use Rattle.uplink.specs.Packet.{piece_max}
 use Rattle.listing.specs.Entries.{show_eversolar}
 use Rattle.listing.specs.Steps.{room_least}
 use Rattle.listing.proofs.LinesFit.{line_for, per_byte, held_most, Weighs, eversolar_weight, eversolar_weighs, eversolar_heavy}
-use Rattle.listing.proofs.DrainReadsPiece.{rest, rest_length, into, message_for, damage_for, given, Went, went, spoils, Kept, begins, kept_length, line_used, line_uses, line_room, turns, ends, ends_spoilt}
+use Rattle.listing.proofs.DrainReadsPiece.{rest, rest_length, into, message_for, damage_for, given, Went, went, spoils, begins, line_used, line_uses, line_room, turns, ends, ends_spoilt}
 use Rattle.listing.proofs.drain.drain_eversolar.Invariants.{Keeps, reader_of}
 use Rattle.listing.proofs.drain.drain_eversolar.Goals.{After-step_in_place-s}
 use Rattle.listing.proofs.drain.drain_eversolar.Goals as goal

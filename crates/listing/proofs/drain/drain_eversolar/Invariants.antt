@@ -1,33 +1,18 @@
 -- `drain_eversolar`: the loop keeps what `Kept` says, and its two ends are the promise's.
-use Prim.Native.Nat.{ℕ, ◌+◌, ◌-◌, ◌*◌, ◌≤◌, ◌<◌}
-use mathlib.Core.Path.{◌≡◌, refl, sym, ap, ◌∙◌, subst}
-use mathlib.Core.Bool.{true, false}
-use mathlib.Core.Option.{Option}
-use mathlib.Core.List.{List, ◌++◌}
-use lib.ListN.{length, take, drop, length-drop, length-replicate, length-map}
-use lib.Seq.{sets}
-use native.Mathlib.Nat.{add-zero}
-use native.Mathlib.Omega.{arith}
-use borrow.Author.Rules.{rules}
-use Rattle.stream.specs.Event.{Event}
-use Rattle.stream.specs.Call.{lent_least, retold, Steps}
-use Rattle.stream.proofs.HostRelies.{Fine, step_used, step_fits}
-use Rattle.stream.proofs.InPlaceIsStep.{in_place_is_step}
-use Rattle.eversolar.specs.Wire.{Message}
+use Prim.Native.Nat.{ℕ, ◌-◌}
+use mathlib.Core.Path.{◌≡◌}
+use mathlib.Core.Bool.{false}
+use mathlib.Core.List.{List}
+use lib.ListN.{length}
+use Rattle.stream.specs.Call.{lent_least}
 use Rattle.eversolar.specs.Machine.{held_max, next}
-use Rattle.eversolar.specs.Reader.{in_range, header, told, shown, join, together, whole, IsStep}
+use Rattle.eversolar.specs.Reader.{in_range, header, shown, join, together}
 use Rattle.eversolar.specs.declared.reader.Reader.{Reader}
-use Rattle.eversolar.specs.declared.reader.Header.{Header}
-use Rattle.eversolar.specs.declared.reader.Step.{Step}
 use Rattle.eversolar.specs.declared.reader.StepInPlace.{StepInPlace}
-use Rattle.eversolar.specs.declared.reader.Answer.{Answer}
-use Rattle.eversolar.specs.declared.reader.Answer.TheVariants.{Done, Message as Read, Damaged, Refused}
 use Rattle.eversolar.proofs.FamilyFacts.{joins}
-use Rattle.uplink.specs.Packet.{piece_max}
 use Rattle.listing.specs.Entries.{show_eversolar}
-use Rattle.listing.specs.Steps.{room_least}
-use Rattle.listing.proofs.LinesFit.{line_for, per_byte, held_most, Weighs, eversolar_weight, eversolar_weighs, eversolar_heavy}
-use Rattle.listing.proofs.DrainReadsPiece.{rest, rest_length, into, message_for, damage_for, given, Went, went, spoils, Kept, begins, kept_length, line_used, line_uses, line_room, turns, ends, ends_spoilt}
+use Rattle.listing.proofs.LinesFit.{eversolar_weight}
+use Rattle.listing.proofs.DrainReadsPiece.{Kept}
 use Rattle.listing.proofs.drain.drain_eversolar.Given as goal
 
 abbrev pub Keeps : (port : ℕ) → Reader → (piece out₀ : List ℕ) → Reader → (at wrote messages damages : ℕ) → (out : List ℕ) → Type 0

@@ -1,6 +1,5 @@
 -- `comlynx_line`: the line of its message is written where there is room.
 use native.Mathlib.Omega.{arith}
-use borrow.Author.Rules.{rules}
 use lib.ListN.{length-take}
 use Rattle.comlynx.specs.Reader.{join}
 use Rattle.listing_text.specs.Lines.{Shown, too_long, message_line}

@@ -1,6 +1,5 @@
 -- `damage_line`: the line of a damage is written where there is room.
-use borrow.Author.Rules.{rules}
-use mathlib.Core.Path.{refl, ap, subst}
+use mathlib.Core.Path.{refl}
 use mathlib.Core.Bool.{false}
 use Rattle.answers.specs.Damage as DamageNumber
 use Rattle.listing_text.specs.Lines.{damage_line}
