@@ -1,6 +1,6 @@
 -- `of_drives`: no call uses more than its piece.
 use Rattle.std.proofs.Common.{◌-◌, ◌≤◌, ◌≡◌, length}
-use Rattle.drives.specs.Machine.{held_max, next}
+use Rattle.drives.specs.Machine.{held_max}
 use Rattle.pace_in_place.proofs.of_drives.Given as goal
 
 abbrev pub invariant-loop-at : goal.invariant-loop-at

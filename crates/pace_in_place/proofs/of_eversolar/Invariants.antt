@@ -1,6 +1,6 @@
 -- `of_eversolar`: no call uses more than its piece.
 use Rattle.std.proofs.Common.{◌-◌, ◌≤◌, ◌≡◌, length}
-use Rattle.eversolar.specs.Machine.{held_max, next}
+use Rattle.eversolar.specs.Machine.{held_max}
 use Rattle.pace_in_place.proofs.of_eversolar.Given as goal
 
 abbrev pub invariant-loop-at : goal.invariant-loop-at

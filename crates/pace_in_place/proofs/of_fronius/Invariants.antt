@@ -1,6 +1,6 @@
 -- `of_fronius`: no call uses more than its piece.
 use Rattle.std.proofs.Common.{◌-◌, ◌≤◌, ◌≡◌, length}
-use Rattle.fronius.specs.Machine.{held_max, next}
+use Rattle.fronius.specs.Machine.{held_max}
 use Rattle.pace_in_place.proofs.of_fronius.Given as goal
 
 abbrev pub invariant-loop-at : goal.invariant-loop-at
