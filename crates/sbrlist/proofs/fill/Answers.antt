@@ -1,13 +1,13 @@
 -- `fill`: its calls of `step` go on from each other; packets are counted, so that it ends.
-use Rattle.std.proofs.Common.{◌≡◌, ℕ, ◌+◌, ◌-◌, ◌<◌, ◌≤◌, Bool, List, length, take, drop, refl, arith, length-take, length-drop}
-use Rattle.listing.specs.Steps.{packets_max, room_least, IsStep}
+use Rattle.std.proofs.Common.{◌≡◌, ℕ, ◌+◌, ◌-◌, ◌<◌, ◌≤◌, Bool, List, length, take, drop, arith, length-take, length-drop}
+use Rattle.listing.specs.Steps.{packets_max, IsStep}
 use Rattle.listing.specs.declared.Listing.{Listing}
 use Rattle.listing.specs.declared.Listed.{Listed}
 use Rattle.listing.specs.declared.Heard.TheVariants.{Packet as Took}
 use Rattle.listing_whole.proofs.Demands.{gets_on}
 use Rattle.numbers.proofs.Alike.{zero_is_one}
 use Rattle.sbrlist.specs.Run.{Counts, IsFilled}
-use Rattle.sbrlist.proofs.CallsGoOn.{wrote_fits, Going, begins, going_then, known_then, filled_then, filled, out_then}
+use Rattle.sbrlist.proofs.CallsGoOn.{wrote_fits, Going, going_then, known_then, filled_then, filled, out_then}
 use borrow.Rule.Slice.PartMut.{same_len_mid}
 use Rattle.sbrlist.proofs.fill.Goals as goal
 use Rattle.sbrlist.proofs.fill.Goals.{After-step-s}

@@ -1,5 +1,5 @@
 -- `fill`: its calls of `step` go on from each other; packets are counted, so that it ends.
-use Rattle.std.proofs.Common.{◌+◌, ◌-◌, ◌≤◌, ◌≡◌, length}
+use Rattle.std.proofs.Common.{◌+◌, ◌-◌, ◌≤◌, length}
 use Rattle.listing.specs.Steps.{packets_max, room_least}
 use Rattle.sbrlist.specs.Run.{Counts}
 use Rattle.sbrlist.proofs.CallsGoOn.{Going}

@@ -1,5 +1,5 @@
 -- `move_front`: what is moved stands at the front, and behind it all is as it was.
-use Rattle.std.proofs.Common.{◌-◌, ◌+◌, ◌≤◌, ◌≡◌, length, take, drop, ◌++◌}
+use Rattle.std.proofs.Common.{◌-◌, ◌≤◌, ◌≡◌, take, drop, ◌++◌}
 use Rattle.sbrlist.proofs.move_front.Given as goal
 
 abbrev pub invariant-loop-i : goal.invariant-loop-i
