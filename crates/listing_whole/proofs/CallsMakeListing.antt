@@ -15,12 +15,12 @@ use Rattle.answers.specs.Answer.{number}
 use Rattle.answers.specs.Refusal.{number as refusalNumber}
 use Rattle.answers.specs.declared.Refusal.TheVariants.{TooManyPackets}
 use Rattle.stream.proofs.BytesOfParts.{bytes_append, bytes_take, bytes_drop}
-use Rattle.uplink.specs.Packet.{lead_length, piece_max, port_in, count_in, packet_at}
+use Rattle.uplink.specs.Packet.{lead_length, count_in, packet_at}
 use Rattle.listing_text.specs.Lines.{title_line}
 use Rattle.listing.specs.Entries.{entries_on, Entry, lines_of, messages_in, damages_in, last_lines}
 use Rattle.listing.specs.Steps.{Packet, packet_in, packets_max}
 use Rattle.listing_whole.specs.Listing.{Cut, stopped, before, whole, by_packet, by_end, cut, joined, brings, entries, listing_of}
-use Rattle.listing.specs.Steps.{IsFresh, Fed, fed, readable, Made, unmoved, wants_more, ends, takes, made, IsStep}
+use Rattle.listing.specs.Steps.{IsFresh, Fed, fed, Made, takes, made, IsStep}
 use Rattle.listing_whole.specs.Demands.{Has, Prints, reads_on, takes as took, ends as over, Makes}
 use Rattle.listing.specs.declared.Listing.{Listing}
 use Rattle.listing.specs.declared.Listed.{Listed}

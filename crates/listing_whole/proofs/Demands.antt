@@ -2,24 +2,23 @@
 -- Assumes nothing.
 use Prim.Native.Nat.{ℕ, ◌+◌, ◌≤◌, ◌<◌}
 use mathlib.Core.Path.{◌≡◌, refl, sym, ap, ◌∙◌, subst}
-use mathlib.Core.Bool.{Bool, true, false, cond, ◌&&◌, not}
-use mathlib.Core.Option.{Option, none, some}
+use mathlib.Core.Bool.{Bool, true, false, cond}
+use mathlib.Core.Option.{Option, some}
 use mathlib.Core.List.{List, [], ◌∷◌, ◌++◌}
 use lib.ListN.{length, take, drop, length-take, length-drop}
 use lib.Dec.{eqb}
-use borrow.Author.Tests.{eqb-true, eqb-false, le-leb}
+use borrow.Author.Tests.{le-leb}
 use native.Mathlib.Omega.{arith}
 use Rattle.numbers.proofs.Alike.{zero_is_one}
-use Rattle.answers.specs.Answer.{number}
 use Rattle.answers.specs.Refusal.{number as refusalNumber}
 use Rattle.answers.specs.declared.Refusal.{Refusal}
-use Rattle.answers.specs.declared.Refusal.TheVariants.{BytesMissing, Spoilt, TooManyPackets}
+use Rattle.answers.specs.declared.Refusal.TheVariants.{TooManyPackets}
 use Rattle.ports.specs.Ports.{Seat, row_of}
 use Rattle.ports.proofs.EveryRow.{facts_of, OnSeat}
 use Rattle.ports.proofs.TableLaws.{seat_at_lem}
-use Rattle.uplink.specs.Packet.{lead_length, piece_max, port_in, count_in, packet_at}
-use Rattle.listing.specs.Steps.{packet_in, packets_max}
-use Rattle.listing.specs.Steps.{IsFresh, fed, readable_on, readable, Made, unmoved, wants_more, ends, takes, taking, no_packet, at_end, by_packet, going, in_range, room_least, made, Sound, IsStep}
+use Rattle.uplink.specs.Packet.{lead_length, piece_max, port_in, count_in}
+use Rattle.listing.specs.Steps.{packets_max}
+use Rattle.listing.specs.Steps.{IsFresh, readable_on, readable, Made, ends, taking, no_packet, at_end, by_packet, going, in_range, room_least, made, Sound, IsStep}
 use Rattle.listing_whole.specs.Demands as Specs
 use Rattle.listing_whole.specs.Demands.{Reached, at_first, by_call}
 use Rattle.listing.specs.declared.Listing.{Listing}

@@ -1,6 +1,6 @@
 -- What is listed of each port, and how many messages and damages that makes in all.
 -- Assumes nothing.
-use Prim.Native.Nat.{ℕ, ◌+◌, ◌≤◌}
+use Prim.Native.Nat.{ℕ, ◌+◌}
 use mathlib.Core.Path.{◌≡◌, refl, sym, ap, ap₂, ◌∙◌, subst}
 use mathlib.Core.Bool.{Bool, true, false, cond}
 use mathlib.Core.Option.{Option, none, some}
@@ -9,9 +9,9 @@ use lib.ListN.{length, drop}
 use lib.Seq.{drop-append_seam}
 use lib.Dec.{T, eqb}
 use lib.Pow.{are_bytes}
-use borrow.Author.Tests.{eqb-true, eqb-false}
+use borrow.Author.Tests.{eqb-true}
 use native.Mathlib.Omega.{arith}
-use Rattle.stream.specs.Event.{Event, message, damage}
+use Rattle.stream.specs.Event.{Event, message}
 use Rattle.stream.proofs.CallsComeTo.{after}
 use Rattle.stream.proofs.BytesOfParts.{bytes_left}
 use Rattle.ports.specs.Ports.{Seat, seats, sum_over, row_of, seat_at}

@@ -1,17 +1,17 @@
 -- What the bytes at the front of an input decide of its first packet, whatever follows them.
 -- Assumes nothing.
 use Prim.Native.Nat.{ℕ, ◌+◌, ◌*◌, ◌≤◌, ◌<◌}
-use mathlib.Core.Path.{◌≡◌, refl, sym, ap, ap₂, ◌∙◌}
-use mathlib.Core.Bool.{Bool, true, false, cond, ◌&&◌}
-use mathlib.Core.List.{List, [], ◌∷◌, ◌++◌}
+use mathlib.Core.Path.{◌≡◌, refl, ap, ap₂, ◌∙◌}
+use mathlib.Core.Bool.{Bool, true, false}
+use mathlib.Core.List.{List, ◌++◌}
 use lib.ListN.{length, take, drop, get_or, length-append, length-drop, get_or-append}
 use lib.Seq.{take-append-le, drop-append-le}
 use lib.Dec.{leb, eqb}
 use borrow.Author.Tests.{leb-true, leb-false, le-leb, eqb-true}
 use native.Mathlib.Omega.{arith}
 use Rattle.numbers.proofs.TestLaws.{both}
-use Rattle.answers.specs.Answer.{Answer, answer, number}
-use Rattle.answers.specs.Refusal.{number as refusalNumber, refused}
+use Rattle.answers.specs.Answer.{number}
+use Rattle.answers.specs.Refusal.{number as refusalNumber}
 use Rattle.answers.specs.declared.Refusal.{Refusal}
 use Rattle.answers.specs.declared.Refusal.TheVariants.{WrongMark, WrongVersion, WrongPortOrCount, BytesMissing}
 use Rattle.uplink.specs.Packet.{lead_length, piece_max, known, version_of, marked, version_in, port_in, count_in, counted, carried, packet_at}

@@ -8,7 +8,7 @@ use lib.ListN.{length, drop}
 use lib.Seq.{drop-append_seam}
 use lib.Dec.{T}
 use lib.Pow.{are_bytes}
-use Rattle.stream.specs.Event.{Event, message, damage}
+use Rattle.stream.specs.Event.{Event, message}
 use Rattle.stream.specs.Pieces.{Moved}
 use Rattle.stream.specs.Rule.{Settled, readings}
 use Rattle.stream.specs.Written.{written, Each}

@@ -7,19 +7,18 @@ use mathlib.Core.Option.{none}
 use mathlib.Core.List.{List, [], ◌∷◌, ◌++◌, map}
 use lib.ListN.{length, take, drop}
 use lib.Seq.{take-append_seam, drop-append_seam, drop-drop}
-use lib.Dec.{T, eqb}
+use lib.Dec.{T}
 use lib.Pow.{are_bytes}
 use native.Mathlib.Omega.{arith}
 use borrow.Author.Tests.{ne_eqb}
 use Rattle.numbers.proofs.TestLaws.{both}
-use Rattle.answers.specs.Answer.{Answer, answer, number}
+use Rattle.answers.specs.Answer.{answer}
 use Rattle.stream.specs.Event.{Event, message}
 use Rattle.stream.specs.Written.{written, Each}
 use Rattle.stream.proofs.Demands.{written_bytes}
 use Rattle.uplink.specs.Packet.{lead_length, known, version_of, counted, takes, port_in, count_in, packet, packet_at}
-use Rattle.uplink.proofs.PacketTests.{takes_count}
 use Rattle.uplink.proofs.AcceptedIsWritten.{tested, reads_packet}
-use Rattle.uplink.proofs.Demands.{Put, put}
+use Rattle.uplink.proofs.Demands.{put}
 use Rattle.ports.specs.Ports.{Seat, seats, sum_over, row_of}
 use Rattle.ports.proofs.EveryRow.{facts_of, OnSeat}
 use Rattle.ports.proofs.TableLaws.{sums_alike, sums_to_none}
@@ -27,11 +26,11 @@ use Rattle.listing_text.specs.Lines.{Shown, title_line}
 use Rattle.listing.specs.Entries.{Entry, entries_on, lines_of, is_message, is_damage, messages_in, damages_in, last_lines}
 use Rattle.listing.specs.Steps.{Packet, packet_in, packets_max}
 use Rattle.listing_whole.specs.Listing.{Cut, before, by_packet, cut, found, joined, brings, entries, listing_of}
-use Rattle.listing_whole.specs.Demands.{Packed, no_more, and_one, on_port, Messages, ListsAs, StoredDay}
+use Rattle.listing_whole.specs.Demands.{Packed, no_more, and_one, on_port, Messages, StoredDay}
 use Rattle.listing_whole.proofs.FirstPacket.{carried_seat}
 use Rattle.listing_whole.proofs.MachineFindsRule.{found_written}
 use Rattle.listing_whole.proofs.CallsMakeListing.{cut_nil}
-use Rattle.listing_whole.proofs.EntriesByPort.{by_port, OnSeats, among, in_all, by_ports, messages_are, damages_are, all_messages}
+use Rattle.listing_whole.proofs.EntriesByPort.{by_port, OnSeats, among, by_ports, messages_are, damages_are, all_messages}
 
 -- ---- packets as they were written are cut again
 
