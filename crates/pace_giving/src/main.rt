@@ -2,9 +2,12 @@
 // roster. Prints the sum of what the calls told, and writes the roster as it is then.
 #![tactic(auto)]
 
+mod input;
+
+use input::read_full;
 use roster::Given;
 use std::io::Stdout;
-use test_parts::{LARGE, read_full};
+use test_parts::LARGE;
 
 // What is added to the number of a refusal, so that it is no address.
 const REFUSED: u64 = 1000;

@@ -2,11 +2,14 @@
 // (`step_in_place`). It is a program of its own: with two callers in one the compiler would not put the step where it is called.
 #![tactic(auto)]
 
+mod input;
+
 ghost use Rattle.std.specs.Prelude.{◌≤◌, length};
 
+use input::read_full;
 use numbers::{least, wide};
 use std::io::Stdout;
-use test_parts::{COMLYNX, DRIVES, EVERSOLAR, FRONIUS, LARGE, read_full, word_at};
+use test_parts::{COMLYNX, DRIVES, EVERSOLAR, FRONIUS, LARGE, word_at};
 
 // Where the input has the family and how long a piece is. The frames stand behind them.
 const FAMILY: usize = 0;

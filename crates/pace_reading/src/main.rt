@@ -3,11 +3,14 @@
 // number over the messages.
 #![tactic(auto)]
 
+mod input;
+
 ghost use Rattle.std.specs.Prelude.{◌≤◌, length};
 
+use input::read_full;
 use numbers::{least, wide};
 use std::io::Stdout;
-use test_parts::{COMLYNX, DRIVES, EVERSOLAR, FRONIUS, LARGE, read_full, word_at};
+use test_parts::{COMLYNX, DRIVES, EVERSOLAR, FRONIUS, LARGE, word_at};
 
 // Where the input has the family and how long a piece is. The frames stand behind them.
 const FAMILY: usize = 0;

@@ -2,11 +2,14 @@
 // takes, and prints the line that it prints.
 #![tactic(auto)]
 
+mod input;
+
 ghost use Rattle.std.specs.Prelude.{◌≤◌, length};
 
+use input::read_full;
 use numbers::{least, wide};
 use std::io::Stdout;
-use test_parts::{COMLYNX, DRIVES, EVERSOLAR, FRONIUS, LARGE, read_full};
+use test_parts::{COMLYNX, DRIVES, EVERSOLAR, FRONIUS, LARGE};
 
 // Where the input has the family. How long a piece is stands behind it, and is of no use here; then come the frames.
 const FAMILY: usize = 0;

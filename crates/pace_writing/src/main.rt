@@ -3,10 +3,13 @@
 // what the calls told and the bytes looked at, and writes the lent buffer.
 #![tactic(auto)]
 
+mod input;
+
 use answers::Written;
+use input::read_full;
 use numbers::{least, wide};
 use std::io::Stdout;
-use test_parts::{COMLYNX, DRIVES, EVERSOLAR, FRONIUS, LARGE, read_full, size_at, word_at};
+use test_parts::{COMLYNX, DRIVES, EVERSOLAR, FRONIUS, LARGE, size_at, word_at};
 
 // What is called where it is no family's writer.
 const CHECKSUM: u8 = 5;

@@ -3,10 +3,12 @@
 // packet writer; then some bytes are changed, as a bad line changes them, so that each damage number comes up.
 #![tactic(auto)]
 
+use input::read_full;
 use line::fill;
 use std::io::Stdout;
-use test_parts::{COMLYNX, DRIVES, EVERSOLAR, FRONIUS, LARGE, further, part, read_full};
+use test_parts::{COMLYNX, DRIVES, EVERSOLAR, FRONIUS, LARGE, further, part};
 
+mod input;
 mod line;
 
 // How many bytes of a line go into one packet, in turn. Most end inside a message, one between the two bytes of an escape pair, two before

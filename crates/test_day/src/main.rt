@@ -6,6 +6,7 @@
 #![tactic(auto)]
 
 mod families;
+mod input;
 mod lines;
 mod of_comlynx;
 mod of_drives;
@@ -15,10 +16,11 @@ mod slices;
 mod window;
 
 use families::stream;
+use input::read_full;
 use numbers::{least, wide};
 use slices::day_by_slices;
 use std::io::{Stdin, Stdout};
-use test_parts::{LARGE, read_full};
+use test_parts::LARGE;
 use window::before_the_day;
 
 // Where the input has the family and the way. The day stands behind them.

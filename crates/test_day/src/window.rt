@@ -1,9 +1,10 @@
 // What is at hand of the day: its bytes are at the front of a buffer, which is the slice that is asked.
 ghost use Rattle.std.specs.Prelude.{◌≤◌, length};
 
+use crate::input::read_full;
 use numbers::least;
 use std::io::Stdin;
-use test_parts::{further, part, read_full};
+use test_parts::{further, part};
 
 // What is counted down by a loop over the day, which only shows that it ends: no day has so many slices or pieces.
 pub(crate) const TURNS: u64 = u64::MAX;

@@ -2,12 +2,12 @@
 // there is, so that no program owes a proof for it.
 #![tactic(auto)]
 
-mod input;
-
 ghost use Rattle.test_parts.specs.Parts.{IsFurther, IsByteAt, IsWordAt, IsPart, IsLowOf, IsHighOf};
 
-pub use input::{LARGE, read_full};
 use numbers::{wide, word};
+
+// How long a buffer is that holds the input of most programs here.
+pub const LARGE: usize = 65536;
 
 // The families, by the numbers of their ports.
 pub const COMLYNX: u8 = 1;

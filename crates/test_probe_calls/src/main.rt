@@ -5,6 +5,7 @@
 
 mod calls;
 mod heads;
+mod input;
 mod rosters;
 mod session;
 mod shapes;

@@ -5,6 +5,7 @@
 
 mod calls;
 mod heads;
+mod input;
 mod packets;
 mod session;
 mod shapes;

@@ -1,9 +1,10 @@
 // The bytes of a call and of its result: reading the one, and putting out of the other what every result has. A program's own modules say the rest:
 // `shapes` which calls it knows, `calls` who makes each.
+use crate::input::read_full;
 use crate::wire::{FAR, WORD, list_at, list_size, past_list, put, say_list, say_size};
 use numbers::least;
 use std::io::{Stdin, Stdout};
-use test_parts::{further, read_full};
+use test_parts::further;
 
 // The bytes of a call and of its result.
 #[derive(Clone, Copy)]

@@ -6,6 +6,7 @@
 mod calls;
 mod heads;
 mod in_place;
+mod input;
 mod readers;
 mod session;
 mod shapes;

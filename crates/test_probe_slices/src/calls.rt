@@ -1,9 +1,10 @@
 // Reading a call, and who makes it.
 use crate::asks;
+use crate::input::read_full;
 use crate::wire::{FAR, QUAD, WORD, list_size, quad_at, word_at};
 use numbers::least;
 use std::io::{Stdin, Stdout};
-use test_parts::{byte_at, part, read_full};
+use test_parts::{byte_at, part};
 
 // The calls, by their opcodes.
 const SET: u8 = 0x91;

@@ -6,6 +6,7 @@
 mod answers_told;
 mod asks;
 mod calls;
+mod input;
 mod wire;
 
 use calls::next_call;

@@ -3,10 +3,12 @@
 #![tactic(auto)]
 
 mod families;
+mod input;
 
 use families::{MESSAGE, READ, read, write};
+use input::read_full;
 use std::io::Stdout;
-use test_parts::{COMLYNX, DRIVES, EVERSOLAR, FRONIUS, LARGE, byte_at, part, read_full, size_at};
+use test_parts::{COMLYNX, DRIVES, EVERSOLAR, FRONIUS, LARGE, byte_at, part, size_at};
 
 // A record has a front, then room for a payload and room for a frame.
 const FRONT: usize = 13;

@@ -1,7 +1,7 @@
 -- `read_full`: what was read stands at the front, and is what the input has less.
 use Rattle.std.proofs.Common.{length, ◌-◌, ◌≤◌, take}
 use Rattle.std.specs.Io.KnownBytes.{Consumes}
-use Rattle.test_parts.proofs.input.read_full.Given as goal
+use Rattle.pace_writing.proofs.input.read_full.Given as goal
 
 abbrev pub invariant-loop-done : goal.invariant-loop-done
 invariant-loop-done g l =

@@ -4,7 +4,7 @@ use Rattle.std.proofs.KnownBytes.{Consumes-trans}
 use Rattle.std.specs.Io.KnownBytes.{Consumes}
 use borrow.Rule.Slice.PartMut.{put_mid, post_of}
 use lib.Seq.{take-append-le, take-append-add}
-use Rattle.test_parts.proofs.input.read_full.Goals as goal
+use Rattle.sample_day.proofs.input.read_full.Goals as goal
 
 -- the front of a slice of which a part was written
 front : (a k n : ℕ) (xs ys : List ℕ) → a ≤ length xs → n ≤ length ys → take (a + n) (put_mid a k xs ys) ≡ take a xs ++ take n ys

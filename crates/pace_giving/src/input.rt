@@ -4,11 +4,8 @@ ghost use Rattle.std.specs.Io.KnownBytes.{Consumes};
 
 use std::io::Read;
 
-// How long a buffer is that holds the input of most programs here.
-pub const LARGE: usize = 65536;
-
 // Reads until the buffer is full, the input ends or a read fails. Answers how many bytes it put at the buffer's front. For no room nothing is read.
-pub fn read_full<R: Read>(input: &mut R, buffer: &mut [u8]) -> usize
+pub(crate) fn read_full<R: Read>(input: &mut R, buffer: &mut [u8]) -> usize
     ensures count { result ≤ length buffer.new }
     ensures bytes { Consumes (R.remaining input.old) (R.remaining input.new) (take result buffer.new) }
 {
