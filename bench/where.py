@@ -68,7 +68,7 @@ def stretches(cost, words):
 
 def tell(kit, row, programs):
     if not kit.emulator:
-        raise Broken("--where needs the kit's emulator, which it has on aarch64")
+        raise Broken("the kit has no emulator, which --where takes")
     unit, units = UNIT[row.part], row.frames or row.units
     for name, program in zip(("ours", "C"), programs):
         words = disassembly(program)
