@@ -1,5 +1,6 @@
 -- The way back from a number to its case, so that what is told alike is one.
 -- Assumes nothing.
+use Rattle.std.specs.Prelude.{Ok, Err}
 use Prim.Native.Nat.{ℕ, zero, suc, ◌+◌, ◌≤◌, ◌<◌}
 use mathlib.Core.Path.{◌≡◌, refl, sym, ap, ◌∙◌}
 use mathlib.Core.Bool.{Bool, true, false, cond}
@@ -18,8 +19,7 @@ use Rattle.answers.specs.declared.Refusal.{Refusal}
 use Rattle.answers.specs.declared.Refusal.TheVariants.{TooLong, NoRoom, WrongMark, WrongVersion, WrongPortOrCount, BytesMissing, RosterFull, ExponentTooHigh, WrongAddressOrExponentTooLow, NotForThisCall, Spoilt, TooManyPackets, WrongCharacter, SliceTooLong, PlacePastEnd}
 use Rattle.answers.specs.declared.Damage.{Damage}
 use Rattle.answers.specs.declared.Damage.TheVariants.{BrokenPair, WrongBodyLength, WrongStart, WrongSize, WrongSum, WrongLengthByte, WrongCharacter as OutOfSet}
-use Rattle.answers.specs.declared.Written.{Written}
-use Rattle.answers.specs.declared.Written.TheVariants.{Done, Refused}
+use Rattle.answers.specs.Written.{Written}
 
 -- of the cases listed the first that has the number n, else `other`
 abbrev named : {A : Type 0} → (A → ℕ) → A → List A → ℕ → A
@@ -112,11 +112,11 @@ heard_refused done refused others why = go (Refusal.number why) (refusal_above w
     go (suc n) h = refl
 
 pub written_alike : (a b : Written) → Written.told a ≡ Written.told b → a ≡ b
-written_alike = alike_by_back Written.told (heard done Refused) there
+written_alike = alike_by_back Written.told (heard done Err) there
   where
     done : List ℕ → Written
-    done others = Done (get_or others 0 0)
+    done others = Ok (get_or others 0 0)
 
-    there : (a : Written) → heard done Refused (Written.told a) ≡ a
-    there (Done n) = refl
-    there (Refused why) = heard_refused done Refused (0 ∷ []) why
+    there : (a : Written) → heard done Err (Written.told a) ≡ a
+    there (Ok n) = refl
+    there (Err why) = heard_refused done Err (0 ∷ []) why

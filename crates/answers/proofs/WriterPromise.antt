@@ -1,5 +1,6 @@
 -- What the promise of a writer gives: its three ends, that it is one, and what it says of the frame.
 -- Assumes nothing.
+use Rattle.std.specs.Prelude.{Ok, Err}
 use Prim.Native.Nat.{ℕ, ◌≤◌, ◌<◌}
 use mathlib.Core.Path.{◌≡◌, refl, sym, ◌∙◌}
 use mathlib.Core.Bool.{Bool, true, false, cond}
@@ -15,21 +16,20 @@ use Rattle.answers.specs.Answer.{Answer, answer}
 use Rattle.answers.specs.Refusal as Refusal
 use Rattle.answers.specs.Written.{length_of, writing, Writes}
 use Rattle.answers.specs.declared.Refusal.TheVariants.{TooLong, NoRoom}
-use Rattle.answers.specs.declared.Written.{Written}
-use Rattle.answers.specs.declared.Written.TheVariants.{Done, Refused}
+use Rattle.answers.specs.Written.{Written}
 use Rattle.answers.proofs.NumbersHaveCases.{refusal_above, written_alike}
 
 -- ---- the three ends of a writer
 
-pub writes_too_long : (frame lent : List ℕ) → Writes true frame lent (Refused TooLong) lent
+pub writes_too_long : (frame lent : List ℕ) → Writes true frame lent (Err TooLong) lent
 unfolding writing
 writes_too_long frame lent = (refl, refl)
 
-pub writes_no_room : (frame lent : List ℕ) → length lent < length frame → Writes false frame lent (Refused NoRoom) lent
+pub writes_no_room : (frame lent : List ℕ) → length lent < length frame → Writes false frame lent (Err NoRoom) lent
 unfolding writing
 writes_no_room frame lent h = (rw (lt-ltb (length lent) (length frame) h), rw (lt-ltb (length lent) (length frame) h))
 
-pub writes_done : (frame lent : List ℕ) → length frame ≤ length lent → Writes false frame lent (Done (length frame)) (frame ++ drop (length frame) lent)
+pub writes_done : (frame lent : List ℕ) → length frame ≤ length lent → Writes false frame lent (Ok (length frame)) (frame ++ drop (length frame) lent)
 unfolding writing
 writes_done frame lent h = (rw (le-ltb (length lent) (length frame) h), rw (le-ltb (length lent) (length frame) h))
 
@@ -59,8 +59,8 @@ ends t u frame lent = cond t (Refusal.refused 1 TooLong, lent) (cond u (Refusal.
 pub writes_frame : (too_long : Bool) (frame lent later : List ℕ) (w : Written) (n : ℕ) → Writes too_long frame lent w later → length_of w ≡ some n
     → (take n later ≡ frame) × (n ≡ length frame)
 unfolding writing
-writes_frame too_long frame lent later (Refused why) n x e = none_some e
-writes_frame too_long frame lent later (Done m) n x e = go too_long (ltb (length lent) (length frame)) x.0 x.1
+writes_frame too_long frame lent later (Err why) n x e = none_some e
+writes_frame too_long frame lent later (Ok m) n x e = go too_long (ltb (length lent) (length frame)) x.0 x.1
   where
     go : (t u : Bool)
         → answer 0 (m ∷ []) ≡ (ends t u frame lent).0
@@ -75,8 +75,8 @@ writes_frame too_long frame lent later (Done m) n x e = go too_long (ltb (length
 
 pub writes_nothing : (too_long : Bool) (frame lent later : List ℕ) (w : Written) → Writes too_long frame lent w later → length_of w ≡ none → later ≡ lent
 unfolding writing
-writes_nothing too_long frame lent later (Done m) x e = none_some (sym e)
-writes_nothing too_long frame lent later (Refused why) x e = go too_long (ltb (length lent) (length frame)) x.0 x.1
+writes_nothing too_long frame lent later (Ok m) x e = none_some (sym e)
+writes_nothing too_long frame lent later (Err why) x e = go too_long (ltb (length lent) (length frame)) x.0 x.1
   where
     go : (t u : Bool)
         → Refusal.refused 1 why ≡ (ends t u frame lent).0

@@ -1,31 +1,34 @@
 -- What a writer tells and leaves: 0 and the length, with the bytes at the front of the lent buffer; or a refusal, and nothing written.
-use Rattle.std.specs.Prelude.{ℕ, ◌≡◌, Bool, cond, List, [], ◌∷◌, ◌++◌, length, drop, ltb}
+use Rattle.std.specs.Prelude.{ℕ, ◌≡◌, Bool, cond, List, [], ◌∷◌, ◌++◌, length, drop, ltb, Result, Ok, Err}
 use Rattle.std.proofs.Math.Option.{Option, none, some}
 use Rattle.answers.specs.Answer.{Answer, answer, number}
 use Rattle.answers.specs.Refusal.{refused}
+use Rattle.answers.specs.declared.Refusal.{Refusal}
 use Rattle.answers.specs.declared.Refusal.TheVariants.{TooLong, NoRoom}
-use Rattle.answers.specs.declared.Written.{Written}
-use Rattle.answers.specs.declared.Written.TheVariants.{Done, Refused}
+
+-- how many bytes stand at the front of the lent buffer, or why it is as it was
+abbrev pub Written : Type 0
+Written = Result ℕ Refusal
 
 abbrev pub told : Written → Answer
-told (Done n) = answer 0 (n ∷ [])
-told (Refused why) = refused 1 why
+told (Ok n) = answer 0 (n ∷ [])
+told (Err why) = refused 1 why
 
 -- the length, where something was written
 abbrev pub length_of : Written → Option ℕ
-length_of (Done n) = some n
-length_of (Refused why) = none
+length_of (Ok n) = some n
+length_of (Err why) = none
 
 -- the same as a number, 0 where nothing was
 abbrev pub length_in : Written → ℕ
-length_in (Done n) = n
-length_in (Refused why) = 0
+length_in (Ok n) = n
+length_in (Err why) = 0
 
--- what `Written::length` promises
+-- what `written_length` promises
 abbrev pub IsLength : Written → ℕ → Type 0
 IsLength w n = n ≡ length_in w
 
--- what `Written::number` promises
+-- what `written_number` promises
 abbrev pub IsWrittenNumber : Written → ℕ → Type 0
 IsWrittenNumber w n = n ≡ number (told w)
 

@@ -1,4 +1,5 @@
-// The answer numbers of document 01 as types: what a call refuses, what a reader finds damaged, what a writer wrote.
+// The answer numbers of document 01 as types: why a call refuses, and what a reader finds damaged. A writer answers `Result<usize, Refusal>`: how many bytes stand
+// at the front of the buffer lent to it, or why that is as it was.
 #![tactic(auto)]
 
 ghost use Rattle.answers.specs.Refusal.{IsRefusalNumber};
@@ -59,15 +60,6 @@ pub enum Damage {
     WrongCharacter,
 }
 
-// What a writer did with the buffer lent to it.
-#[derive(Clone, Copy)]
-pub enum Written {
-    // so many bytes stand at its front
-    Done(usize),
-    // it is as it was
-    Refused(Refusal),
-}
-
 impl Refusal {
     pub fn number(self) -> u8
         ensures { IsRefusalNumber self result }
@@ -108,23 +100,19 @@ impl Damage {
     }
 }
 
-impl Written {
-    // How many bytes were written: none with a refusal.
-    pub fn length(self) -> usize
-        ensures { IsLength self result }
-    {
-        match self {
-            Written::Done(length) => length,
-            Written::Refused(_) => 0,
-        }
-    }
+// How many bytes a writer wrote: it answers their number, or why it wrote none.
+pub fn written_length(written: Result<usize, Refusal>) -> usize
+    ensures { IsLength written result }
+{
+    written.unwrap_or(0)
+}
 
-    pub fn number(self) -> u8
-        ensures { IsWrittenNumber self result }
-    {
-        match self {
-            Written::Done(_) => 0,
-            Written::Refused(why) => why.number(),
-        }
+// The answer number of what a writer did.
+pub fn written_number(written: Result<usize, Refusal>) -> u8
+    ensures { IsWrittenNumber written result }
+{
+    match written {
+        Ok(_) => 0,
+        Err(why) => why.number(),
     }
 }

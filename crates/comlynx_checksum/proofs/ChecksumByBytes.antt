@@ -1,19 +1,16 @@
 -- The laws of the checksum: a bit's step is linear in exclusive-or, so a byte's step is eight of them; and lists go byte by byte.
 -- Assumes nothing.
 use mathlib.Core.Path.{◌≡◌, refl, sym, ap, ap₂, ◌∙◌}
-use mathlib.Core.Bool.{Bool, true, false}
 use mathlib.Core.List.{List, [], ◌∷◌, ◌++◌}
-use Prim.Native.Nat.{ℕ, zero, suc, min, ◌+◌, ◌*◌, ◌/◌, ◌%◌, ◌^◌, ◌<◌, ◌≤◌}
-use native.Mathlib.Nat.{mod-eq_of_lt, min-eq_left, min-eq_right, le_of_lt}
+use Prim.Native.Nat.{ℕ, zero, suc, ◌+◌, ◌*◌, ◌/◌, ◌%◌, ◌^◌, ◌<◌, ◌≤◌}
+use native.Mathlib.Nat.{mod-eq_of_lt}
 use native.Mathlib.Numerals.{add-one}
 use native.Mathlib.Omega.{arith}
-use borrow.Author.Tests.{leb-true, leb-false}
 use lib.Arith.{bin_ind}
 use lib.Bits.{bit_xor, bit_and, differ, xor_step, xor_shr, xor_mod, xor_comm, xor_self, xor_zero_r, xor_shifted, shifted_half, shifted_even, and_mask, mask_lt}
-use lib.Dec.{leb}
 use lib.ListN.{length, get_or, take, drop, drop_of_length-le}
 use lib.Pow.{split}
-use lib.Seq.{drop-cons, take-suc, take_all, take-length}
+use lib.Seq.{drop-cons, take-suc}
 use Rattle.comlynx_checksum.specs.Checksum.{poly, folded, bit_step, bit_steps, entry, checksum_next, checksum_from, checksum_of}
 use Rattle.comlynx_checksum.specs.Table.{checksum_table}
 use Rattle.comlynx_checksum.proofs.TableByRule.{get_d_tabulate}
@@ -131,14 +128,3 @@ of_snoc s b = of_append s (b ∷ [])
 
 pub of_take : (s : List ℕ) (i : ℕ) → i < length s → checksum_of (take (i + 1) s) ≡ checksum_next (checksum_of (take i s)) (get_or s i 0)
 of_take s i h = rw (add-one, take-suc s i 0) (of_snoc (take i s) (get_or s i 0))
-
--- ---- the first n bytes of a list that may have fewer
-
-pub take_least : (n : ℕ) (l : List ℕ) → take (min n (length l)) l ≡ take n l
-take_least n l = go (leb n (length l)) refl
-  where
-    go : (t : Bool) → leb n (length l) ≡ t → take (min n (length l)) l ≡ take n l
-    go true e = ap (λ (i : ℕ). take i l) (min-eq_left (leb-true n (length l) e))
-    go false e =
-        let h : length l ≤ n = le_of_lt (leb-false n (length l) e) in
-        ap (λ (i : ℕ). take i l) (min-eq_right h) ∙ take-length l ∙ sym (take_all n l h)

@@ -5,8 +5,6 @@ ghost use Rattle.std.specs.Prelude.{◌≡◌};
 ghost use Rattle.comlynx_checksum.specs.Checksum.{checksum_next, IsOf, IsOfBoth, IsOfFirst, IsMore, IsSentOf};
 ghost use Rattle.comlynx_checksum.specs.Table.{checksum_table};
 
-use numbers::least;
-
 // The state before the first byte.
 const START: u16 = 0xffff;
 
@@ -48,7 +46,7 @@ fn next(table: &[u16; 256], state: u16, byte: u8) -> u16
     requires { table.now ≡ checksum_table }
     ensures { result ≡ checksum_next state byte }
 {
-    (state >> 8) ^ table[((state ^ (byte as u16)) & 0xff) as usize]
+    (state >> 8) ^ table[usize::from((state ^ u16::from(byte)) & 0xff)]
 }
 
 // The state after all bytes of a slice. Every call goes by this one loop.
@@ -57,10 +55,8 @@ fn run(table: &[u16; 256], from: u16, bytes: &[u8]) -> u16
     ensures { IsMore from bytes.now result }
 {
     let mut state = from;
-    let mut i = 0;
-    while i < bytes.len() {
-        state = next(table, state, bytes[i]);
-        i += 1;
+    for byte in bytes {
+        state = next(table, state, *byte);
     }
     state
 }
@@ -93,7 +89,7 @@ pub fn of_both(first: &[u8], second: &[u8]) -> u16
 pub fn of_first(bytes: &[u8], n: usize) -> u16
     ensures { IsOfFirst bytes.now n result }
 {
-    let end = least(n, bytes.len());
+    let end = n.min(bytes.len());
     of(&bytes[..end])
 }
 
@@ -109,7 +105,6 @@ pub fn sent_of(state: u16) -> Sent
     ensures { IsSentOf state result }
 {
     let complement = !state;
-    let low = (complement % 256) as u8;
-    let high = (complement / 256) as u8;
+    let [low, high] = complement.to_le_bytes();
     Sent { low, high }
 }

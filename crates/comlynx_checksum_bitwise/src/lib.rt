@@ -4,8 +4,6 @@
 ghost use Rattle.std.specs.Prelude.{◌≡◌};
 ghost use Rattle.comlynx_checksum.specs.Checksum.{bit_step, bit_steps, checksum_next, IsOf, IsOfBoth, IsOfFirst, IsMore};
 
-use numbers::least;
-
 // What is sent after a state has no table in it, and is the same call for every board.
 pub use comlynx_checksum::{Sent, sent_of};
 
@@ -43,7 +41,7 @@ fn four(state: u16) -> u16
 fn next(state: u16, byte: u8) -> u16
     ensures { result ≡ checksum_next state byte }
 {
-    four(four(state ^ (byte as u16)))
+    four(four(state ^ u16::from(byte)))
 }
 
 // The checksum going on from a state over more bytes. Every call goes by this one loop.
@@ -51,10 +49,8 @@ pub fn more(state: u16, bytes: &[u8]) -> u16
     ensures { IsMore state bytes.now result }
 {
     let mut after = state;
-    let mut i = 0;
-    while i < bytes.len() {
-        after = next(after, bytes[i]);
-        i += 1;
+    for byte in bytes {
+        after = next(after, *byte);
     }
     after
 }
@@ -77,6 +73,6 @@ pub fn of_both(first: &[u8], second: &[u8]) -> u16
 pub fn of_first(bytes: &[u8], n: usize) -> u16
     ensures { IsOfFirst bytes.now n result }
 {
-    let end = least(n, bytes.len());
+    let end = n.min(bytes.len());
     of(&bytes[..end])
 }

@@ -14,15 +14,13 @@ pub struct Pair {
 pub fn word(first: u8, second: u8) -> u16
     ensures { IsWord first second result }
 {
-    256 * (first as u16) + second as u16
+    u16::from_be_bytes([first, second])
 }
 
 // The two bytes of a word.
 pub fn bytes_of(word: u16) -> Pair
     ensures { IsBytesOf word result }
 {
-    Pair {
-        first: (word / 256) as u8,
-        second: (word % 256) as u8,
-    }
+    let [first, second] = word.to_be_bytes();
+    Pair { first, second }
 }

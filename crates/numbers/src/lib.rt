@@ -7,19 +7,19 @@ ghost use Rattle.numbers.specs.Numbers.{IsLeast, IsWord, IsWide};
 pub fn least(a: usize, b: usize) -> usize
     ensures { IsLeast a b result }
 {
-    if a < b { a } else { b }
+    a.min(b)
 }
 
 // Two bytes as one number, high byte first.
 pub fn word(high: u8, low: u8) -> u16
     ensures { IsWord high low result }
 {
-    high as u16 * 256 + low as u16
+    u16::from_be_bytes([high, low])
 }
 
 // A byte as a length.
 pub fn wide(byte: u8) -> usize
     ensures { IsWide byte result }
 {
-    byte as usize
+    usize::from(byte)
 }

@@ -1,16 +1,12 @@
-use mathlib.Core.Path.{refl}
+-- `comlynx_checksum::run` meets its contract: a turn takes one byte more, and behind the last byte the state is the whole checksum.
 use native.Mathlib.Omega.{arith}
-use borrow.Author.Rules.{rules}
 use Rattle.comlynx_checksum.proofs.ChecksumByBytes.{turn, ended}
 use Rattle.comlynx_checksum.proofs.run.Goals as goal
 
-pub loop-i-init : goal.loop-i-init
-loop-i-init c = (search rules, refl)
-
-pub loop-i-preserved : goal.loop-i-preserved
-loop-i-preserved c =
-    let l = c.loop-i in
-    (omega arith, turn _ l.state l.i c.next-state.result _ (omega arith) c.next-state.ensures l.invariant.1)
+pub loop-byte-preserved : goal.loop-byte-preserved
+loop-byte-preserved c =
+    let l = c.loop-byte in
+    turn c.args.bytes.now l.state l.byte-index c.next-state.result _ (omega arith) c.next-state.ensures l.invariant
 
 pub returns : goal.returns
-returns c = ended _ _ c.loop-i.i _ (omega arith) c.loop-i.invariant.1
+returns c = ended c.args.bytes.now _ c.loop-byte.byte-index _ (omega arith) c.loop-byte.invariant

@@ -1,5 +1,4 @@
 -- `comlynx_checksum_bitwise::next` meets its contract: a byte's step is eight bits' steps.
-use mathlib.Core.Path.{◌∙◌, ap}
 use native.Mathlib.Omega.{arith}
 use Rattle.comlynx_checksum.specs.Checksum.{bit_steps}
 use Rattle.comlynx_checksum.proofs.ChecksumByBytes.{next_by_bits}
@@ -9,4 +8,4 @@ pub returns : goal.returns
 unfolding bit_steps
 returns c =
     let a = c.args in
-    c.four-2.ensures ∙ ap (bit_steps 4) c.four.ensures ∙ next_by_bits a.state a.byte (omega arith)
+    rw (c.four-2.ensures, c.four.ensures, c.from.ensures) (next_by_bits a.state a.byte (omega arith))
