@@ -61,9 +61,6 @@ before_searched s place r f =
 
 -- ---- flags side by side
 
-pub flags_none : (s : List ℕ) (from at : ℕ) → within at [] (drop from s) ≡ within (at + (from - from)) [] (drop from s)
-flags_none s from at = let e : at ≡ at + (from - from) = omega arith in ap (λ (n : ℕ). within n [] (drop from s)) e
-
 pub flags_more : (s : List ℕ) (from i at : ℕ) → from ≤ i → i < length s → get_or s i 0 ≡ flag
     → within at [] (drop from s) ≡ within (at + (i - from)) [] (drop i s) → within at [] (drop from s) ≡ within (at + (i + 1 - from)) [] (drop (i + 1) s)
 flags_more s from i at h j e so =

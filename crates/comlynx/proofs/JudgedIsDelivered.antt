@@ -1,5 +1,6 @@
 -- What an answer tells by its number, and what a judged stretch tells and delivers.
 -- Assumes nothing.
+use Rattle.std.specs.Prelude.{Option as Maybe, None, Some}
 use Prim.Native.Nat.{ℕ, min, ◌+◌, ◌-◌, ◌*◌, ◌≤◌, ◌<◌}
 use mathlib.Core.Path.{◌≡◌, refl, sym, ap, ◌∙◌, subst}
 use mathlib.Core.Bool.{Bool, true, false}
@@ -26,10 +27,10 @@ use Rattle.comlynx.specs.Wire.{Message, payload_max, body_least, body_max, messa
 use Rattle.comlynx.specs.Rules.{sized, begins, judged}
 use Rattle.comlynx.specs.Machine.{closed}
 use Rattle.comlynx.specs.Reader.{number, told, header}
-use Rattle.comlynx.specs.Inside.{event_of, due, JudgedAs, Judges, Small, There, given}
+use Rattle.comlynx.specs.Inside.{event_of, event_at, due, JudgedAs, Judges, Small, There, given}
 use Rattle.comlynx.specs.declared.reader.Header.{Header}
-use Rattle.comlynx.specs.declared.reader.End.{End}
-use Rattle.comlynx.specs.declared.reader.End.TheVariants.{UsedUp, Closed, Broken}
+use Rattle.comlynx.specs.declared.reader.Closed.{Closed}
+use Rattle.comlynx.specs.declared.reader.Closed.TheVariants.{Whole, Broken}
 use Rattle.comlynx.specs.declared.reader.Answer.{Answer}
 use Rattle.comlynx.specs.declared.reader.Answer.TheVariants.{Done, Message as Read, Damaged, Refused}
 
@@ -177,7 +178,10 @@ pub closed_delivers : (n came : ℕ) (held lent : List ℕ) (a : Answer) → min
     → AnswerDelivers held lent a (some (closed came n held))
 closed_delivers n came held lent a there j = answers held lent a (some (closed came n held)) j (stretch_hands_over n came (agrees (take n held)) held lent there)
 
-pub end_delivers : (e : End) (held lent : List ℕ) (a : Answer) → length held ≡ body_max → JudgedAs (event_of e held) a → AnswerDelivers held lent a (event_of e held)
-end_delivers UsedUp held lent a full j = answers held lent a none j (tt, (tt, refl))
-end_delivers (Closed n came) held lent a full j = closed_delivers n came held lent a (omega arith) j
+pub end_delivers : (e : Closed) (held lent : List ℕ) (a : Answer) → length held ≡ body_max → JudgedAs (some (event_of e held)) a → AnswerDelivers held lent a (some (event_of e held))
+end_delivers (Whole n came) held lent a full j = closed_delivers n came held lent a (omega arith) j
 end_delivers (Broken came) held lent a full j = answers held lent a (some (damage 2 came)) j (tt, (tt, refl))
+
+pub run_delivers : (e : Maybe Closed) (held lent : List ℕ) (a : Answer) → length held ≡ body_max → JudgedAs (event_at e held) a → AnswerDelivers held lent a (event_at e held)
+run_delivers None held lent a full j = answers held lent a none j (tt, (tt, refl))
+run_delivers (Some e) held lent a full j = end_delivers e held lent a full j

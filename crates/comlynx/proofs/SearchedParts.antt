@@ -2,20 +2,21 @@
 -- Assumes nothing.
 use Prim.Native.Nat.{ℕ, zero, suc, ◌+◌, ◌-◌, ◌≤◌}
 use mathlib.Core.Path.{◌≡◌, sym, ap, ◌∙◌, subst}
-use mathlib.Core.Bool.{Bool, true, ◌&&◌, not}
 use mathlib.Core.List.{List, [], ◌∷◌, ◌++◌}
 use lib.ListN.{length, take, drop, get_or, take-append-drop, length-drop}
-use lib.Seq.{drop-cons, drop-drop, length-take-le}
-use lib.Dec.{eqb}
-use borrow.Author.Tests.{eqb-false, not-true}
+use lib.Seq.{get_or-take, drop-cons, drop-drop, length-take-le}
 use native.Mathlib.Nat.{lt_of_not-le}
 use native.Mathlib.Decide.{dec_le}
 use native.Mathlib.Omega.{arith}
-use Rattle.numbers.proofs.TestLaws.{both}
-use Rattle.comlynx.specs.Inside.{Absent, Searched}
+use Rattle.std.proofs.lemmas.List.Edits.{get_or-between}
+use Rattle.comlynx.specs.Inside.{Absent, Clear, Searched, Passed}
 
-pub absent_none : (b : ℕ) (s : List ℕ) (from : ℕ) → Absent b s from from
-absent_none b s from k i j e = absurd (omega arith)
+-- a part of a slice
+abbrev pub part : ℕ → ℕ → List ℕ → List ℕ
+part from to s = take (to - from) (drop from s)
+
+pub length_part : (s : List ℕ) (from r : ℕ) → from ≤ r → r ≤ length s → length (part from r s) ≡ r - from
+length_part s from r h i = length-take-le (r - from) (drop from s) (omega (arith, length-drop from s))
 
 pub absent_join : (b : ℕ) (s : List ℕ) (from mid to : ℕ) → Absent b s from mid → Absent b s mid to → Absent b s from to
 absent_join b s from mid to f g k i j e =
@@ -24,31 +25,36 @@ absent_join b s from mid to f g k i j e =
       | no y ↦ f k i (lt_of_not-le y) e
     ]
 
-pub absent_one : (b : ℕ) (s : List ℕ) (at : ℕ) → (get_or s at 0 ≡ b → ⊥) → Absent b s at (at + 1)
-absent_one b s at n k i j e =
-    let is : k ≡ at = omega arith in
-    n (sym (ap (λ (m : ℕ). get_or s m 0) is) ∙ e)
+-- ---- neither of two
 
--- one more of a run, each of which is looked at
-pub absent_tested : (b : ℕ) (s : List ℕ) (at k : ℕ) (good : Bool) → (good ≡ true → Absent b s at (at + k)) → good && not (eqb (get_or s (at + k) 0) b) ≡ true
-    → Absent b s at (at + (k + 1))
-absent_tested b s at k good f e =
-    let t = both good (not (eqb (get_or s (at + k) 0) b)) e in
-    let here = absent_one b s (at + k) (eqb-false (get_or s (at + k) 0) b (not-true _ t.1)) in
-    let end : at + k + 1 ≡ at + (k + 1) = omega arith in
-    subst (λ (n : ℕ). Absent b s at n) end (absent_join b s at (at + k) (at + k + 1) (f t.0) here)
+pub clear_join : (a b : ℕ) (s : List ℕ) (from mid to : ℕ) → Clear a b s from mid → Clear a b s mid to → Clear a b s from to
+clear_join a b s from mid to f g = (absent_join a s from mid to f.0 g.0, absent_join b s from mid to f.1 g.1)
 
-pub searched_on : (b : ℕ) (s : List ℕ) (from mid to : ℕ) → Searched b s from mid → Searched b s mid to → Searched b s from to
-searched_on b s from mid to f g = (omega (arith, f.0, g.0), g.1, absent_join b s from mid to f.2 g.2)
+-- what is clear in a part is clear there in the whole
+absent_part : (b : ℕ) (s : List ℕ) (from to : ℕ) → to ≤ length s → Absent b (part from to s) 0 (length (part from to s)) → Absent b s from to
+absent_part b s from to h f k i j e =
+    let there : from + (k - from) ≡ k = omega arith in
+    f (k - from) (omega arith) (omega (arith, length_part s from to (omega arith) h))
+    (get_or-between s from to (k - from) 0 (omega arith) ∙ ap (λ (m : ℕ). get_or s m 0) there ∙ e)
+
+pub clear_part : (a b : ℕ) (s : List ℕ) (from to : ℕ) → to ≤ length s → Clear a b (part from to s) 0 (length (part from to s)) → Clear a b s from to
+clear_part a b s from to h f = (absent_part a s from to h f.0, absent_part b s from to h f.1)
+
+-- and what is clear in a front
+absent_front : (b : ℕ) (s : List ℕ) (n from to : ℕ) → to ≤ n → Absent b (take n s) from to → Absent b s from to
+absent_front b s n from to h f k i j e = f k i j (get_or-take n s k 0 (omega arith) ∙ e)
+
+pub clear_front : (a b : ℕ) (s : List ℕ) (n from to : ℕ) → to ≤ n → Clear a b (take n s) from to → Clear a b s from to
+clear_front a b s n from to h f = (absent_front a s n from to h f.0, absent_front b s n from to h f.1)
+
+pub passed_on : (a b : ℕ) (s : List ℕ) (from mid to : ℕ) → Passed a b s from mid → Passed a b s mid to → Passed a b s from to
+passed_on a b s from mid to f g = (omega (arith, f.0, g.0), g.1, clear_join a b s from mid to f.2 g.2)
 
 -- ---- the part that it passed over
 
 abbrev pub Without : ℕ → List ℕ → Type 0
 Without b [] = Unit {0}
 Without b (x ∷ xs) = (x ≡ b → ⊥) × Without b xs
-
-abbrev pub part : ℕ → ℕ → List ℕ → List ℕ
-part from to s = take (to - from) (drop from s)
 
 taken_without : (b : ℕ) (s : List ℕ) (n from : ℕ) → from + n ≤ length s → Absent b s from (from + n) → Without b (take n (drop from s))
 taken_without b s zero from h a = tt
@@ -67,6 +73,3 @@ part_left s from r h =
     let e : from + (r - from) ≡ r = omega arith in
     sym (take-append-drop (r - from) (drop from s))
     ∙ ap (λ (l : List ℕ). part from r s ++ l) (drop-drop (r - from) from s ∙ ap (λ (n : ℕ). drop n s) e)
-
-pub length_part : (s : List ℕ) (from r : ℕ) → from ≤ r → r ≤ length s → length (part from r s) ≡ r - from
-length_part s from r h i = length-take-le (r - from) (drop from s) (omega (arith, length-drop from s))

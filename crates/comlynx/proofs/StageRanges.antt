@@ -42,10 +42,6 @@ unfolding Machine.in_range
 in_range_lem stage came count (outside p q r) = rw (eq-eqb stage 0 p, eq-eqb came 0 q, eq-eqb count 0 r)
 in_range_lem stage came count (within p q r s) = rw (ne_eqb stage 0 (λ e. omega arith), le-leb stage 3 q, le-leb came lost_max r, le-leb count too_many s)
 
-pub range_came : (stage came count : ℕ) → Range stage came count → came ≤ lost_max
-range_came stage came count (outside p q r) = omega arith
-range_came stage came count (within p q r s) = r
-
 pub range_count : (stage came count : ℕ) → Range stage came count → count ≤ too_many
 range_count stage came count (outside p q r) = omega arith
 range_count stage came count (within p q r s) = s

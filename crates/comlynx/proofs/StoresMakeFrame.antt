@@ -2,15 +2,13 @@
 -- Assumes nothing.
 use Prim.Native.Nat.{ℕ, suc, ◌+◌, ◌*◌, ◌≤◌, ◌<◌}
 use mathlib.Core.Path.{◌≡◌, refl, sym, ap, ◌∙◌}
-use mathlib.Core.Bool.{Bool, true, false, cond, ◌||◌}
+use mathlib.Core.Bool.{Bool, true, false, cond}
 use mathlib.Core.List.{List, [], ◌∷◌, ◌++◌, append_assoc}
 use lib.ListN.{length, drop, get_or, set, length-append, drop_of_length-le}
 use lib.Seq.{sets, length-sets, drop-cons}
 use lib.Dec.{eqb}
-use borrow.Author.Tests.{eq-eqb, ne_eqb}
 use native.Mathlib.Numerals.{add-one}
 use native.Mathlib.Omega.{arith}
-use Rattle.numbers.proofs.Alike.{zero_is_one}
 use Rattle.stream.proofs.ListLaws.{sets_append}
 use Rattle.comlynx.specs.Wire.{flag, escape, stuffed, flag_pair, escape_pair}
 use Rattle.comlynx.specs.Inside.{Stuffs, framed}
@@ -18,39 +16,6 @@ use Rattle.comlynx.proofs.UnstuffingUndoes.{stuffed_length, special_most}
 
 pub stored_length : (bs : List ℕ) (at : ℕ) (l : List ℕ) (r : ℕ) (k : List ℕ) → Stuffs bs at l r k → length k ≡ length l
 stored_length bs at l r k (e, f) = ap length f ∙ length-sets l at (stuffed bs)
-
--- ---- one byte
-
-pub stuffed_flag : (b : ℕ) → b ≡ flag → stuffed (b ∷ []) ≡ escape ∷ flag_pair ∷ []
-stuffed_flag b e = rw (eq-eqb b flag e)
-
-pub stuffed_escape : (b : ℕ) → b ≡ escape → stuffed (b ∷ []) ≡ escape ∷ escape_pair ∷ []
-stuffed_escape b e = rw (ne_eqb b flag (λ q. omega arith), eq-eqb b escape e)
-
-pub stuffed_plain : (b : ℕ) → (b ≡ flag → ⊥) → (b ≡ escape → ⊥) → stuffed (b ∷ []) ≡ b ∷ []
-stuffed_plain b n m = rw (ne_eqb b flag n, ne_eqb b escape m)
-
-pub width_two : (b : ℕ) → eqb b flag || eqb b escape ≡ true → 2 ≡ length (stuffed (b ∷ []))
-width_two b e = go (eqb b flag) (eqb b escape) e
-  where
-    go : (t u : Bool) → t || u ≡ true → 2 ≡ length (cond t (escape ∷ flag_pair ∷ []) (cond u (escape ∷ escape_pair ∷ []) (b ∷ [])))
-    go true u e = refl
-    go false true e = refl
-    go false false e = zero_is_one cc
-
-pub width_one : (b : ℕ) → eqb b flag || eqb b escape ≡ false → 1 ≡ length (stuffed (b ∷ []))
-width_one b e = go (eqb b flag) (eqb b escape) e
-  where
-    go : (t u : Bool) → t || u ≡ false → 1 ≡ length (cond t (escape ∷ flag_pair ∷ []) (cond u (escape ∷ escape_pair ∷ []) (b ∷ [])))
-    go true u e = zero_is_one cc
-    go false true e = zero_is_one cc
-    go false false e = refl
-
-pub put_pair : (b at x : ℕ) (l : List ℕ) → stuffed (b ∷ []) ≡ escape ∷ x ∷ [] → Stuffs (b ∷ []) at l (at + 2) (set (set l at escape) (at + 1) x)
-put_pair b at x l e = rw (e, add-one) (refl, refl)
-
-pub put_plain : (b at : ℕ) (l : List ℕ) → stuffed (b ∷ []) ≡ b ∷ [] → Stuffs (b ∷ []) at l (at + 1) (set l at b)
-put_plain b at l e = rw e (refl, refl)
 
 -- ---- lists
 
@@ -82,11 +47,6 @@ left_length s i h = ap length (left s i h) ∙ length-append (stuffed (get_or s 
 
 pub left_none : (s : List ℕ) (i : ℕ) → length s ≤ i → stuffed (drop i s) ≡ []
 left_none s i h = ap stuffed (drop_of_length-le s h)
-
--- a turn: one byte is stored, and the rest is left
-pub left_stored : (s : List ℕ) (i at r : ℕ) (l k : List ℕ) → i < length s → Stuffs (get_or s i 0 ∷ []) at l r k → sets k r (stuffed (drop (i + 1) s)) ≡ sets l at (stuffed (drop i s))
-left_stored s i at r l k h (e, f) =
-    rw (e, f) (sets_append l at (stuffed (get_or s i 0 ∷ [])) (stuffed (drop (i + 1) s)) ∙ ap (sets l at) (sym (left s i h)))
 
 -- ---- a frame
 

@@ -1,12 +1,13 @@
 -- A stretch taken in by parts: what is held of its body, and what the rest of it stands for.
 -- Assumes nothing.
+use Rattle.std.specs.Prelude.{Option as Maybe, None, Some}
 use Prim.Native.Nat.{ℕ, suc, min, ◌+◌, ◌-◌, ◌≤◌, ◌<◌}
 use mathlib.Core.Path.{◌≡◌, refl, sym, ap, ap₂, ◌∙◌, subst}
 use mathlib.Core.Bool.{Bool, true, false, cond}
 use mathlib.Core.Option.{Option, none, some}
 use mathlib.Core.List.{List, [], ◌∷◌, ◌++◌, append-nil, append_assoc}
-use lib.ListN.{length, take, drop, get_or, set, length-append, length-set, drop_of_length-le, get_or-eq_default}
-use lib.Seq.{drop-cons, sets, take-suc-set, take_all}
+use lib.ListN.{length, take, drop, get_or, drop_of_length-le, get_or-eq_default}
+use lib.Seq.{drop-cons, take_all}
 use lib.Dec.{eqb}
 use borrow.Author.Tests.{ne_eqb}
 use native.Mathlib.Nat.{lt_of_not-le}
@@ -17,46 +18,15 @@ use Rattle.comlynx_checksum.specs.Checksum.{agrees}
 use Rattle.comlynx.specs.Wire.{flag, escape, flag_pair, escape_pair, body_max}
 use Rattle.comlynx.specs.Rules.{with_first, unstuffed, judged, judged_body, lost_of, judge}
 use Rattle.comlynx.specs.Machine.{too_many, closed}
-use Rattle.comlynx.specs.Inside.{Absent, Searched, Held, Keeps, pair_at, Unstuffs}
-use Rattle.comlynx.specs.declared.reader.End.TheVariants.{Closed, Broken}
+use Rattle.comlynx.specs.Inside.{Absent, Searched, held_count, Held, Keeps, pair_at, Unstuffs}
+use Rattle.comlynx.specs.declared.reader.Closed.TheVariants.{Whole, Broken}
 use Rattle.comlynx.proofs.SearchedParts.{Without, part, searched_without, part_left}
 use Rattle.comlynx.proofs.MachineFollowsRule.{ahead, ahead_front, too_long}
 
 -- ---- what is held
 
-held_none : (held : List ℕ) → length held ≡ body_max → Held 0 held []
-held_none held w = record { wide = w; counted = omega arith; same = λ h. refl }
-
--- one more, while there is room
-pub held_kept : (count : ℕ) (held u : List ℕ) (b : ℕ) → count < body_max → Held count held u → Held (count + 1) (set held count b) (u ++ (b ∷ []))
-held_kept count held u b lt h =
-    let e : length (u ++ (b ∷ [])) ≡ length u + 1 = length-append u (b ∷ []) in
-    record {
-      wide = length-set held count b ∙ h.wide;
-      counted = omega (arith, e, h.counted);
-      same = λ le.
-          ap (λ (n : ℕ). take n (set held count b)) (add-one count)
-          ∙ take-suc-set held count b (omega (arith, h.wide))
-          ∙ ap (λ (l : List ℕ). l ++ (b ∷ [])) (h.same (omega (arith, e, le)));
-    }
-
--- some more, while there is room for all of them
-pub held_part : (part : List ℕ) (count : ℕ) (held u : List ℕ) → count + length part ≤ body_max → Held count held u → Held (count + length part) (sets held count part) (u ++ part)
-held_part [] count held u le h =
-    let e : count ≡ count + 0 = omega arith in
-    subst (λ (n : ℕ). Held n held (u ++ [])) e (subst (λ (l : List ℕ). Held count held l) (sym (append-nil u)) h)
-held_part (b ∷ part) count held u le h =
-    let one = subst (λ (n : ℕ). Held n (set held count b) (u ++ (b ∷ []))) (add-one count) (held_kept count held u b (omega arith) h) in
-    let more = held_part part (suc count) (set held count b) (u ++ (b ∷ [])) (omega arith) one in
-    let e : suc count + length part ≡ count + suc (length part) = omega arith in
-    subst (λ (n : ℕ). Held n (sets (set held count b) (suc count) part) (u ++ (b ∷ part))) e
-    (subst (λ (l : List ℕ). Held (suc count + length part) (sets (set held count b) (suc count) part) l) (append_assoc u (b ∷ []) part) more)
-
--- more than there is room for, whatever is held of them
-pub held_over : (part : List ℕ) (count : ℕ) (held u : List ℕ) → body_max < length u + length part → Held count held u → Held too_many held (u ++ part)
-held_over part count held u lt h =
-    let e = length-append u part in
-    record { wide = h.wide; counted = omega (arith, e); same = λ le. absurd (omega (arith, e)) }
+held_none : (held : List ℕ) → length held ≡ body_max → Held (Some 0) held []
+held_none held w = record { wide = w; roomy = omega arith; counted = omega arith; same = λ h. refl }
 
 -- so what is held is judged as the whole
 counted_closed : (came count : ℕ) (held u : List ℕ) → count ≡ min (length u) too_many → (length u ≤ body_max → take count held ≡ u)
@@ -72,8 +42,8 @@ counted_closed came count held u counted same =
           rw (too_long count (omega (arith, counted)), too_long (length u) lt))
     ]
 
-held_closed : (came count : ℕ) (held u : List ℕ) → Held count held u → closed came count held ≡ judged came (length u) (agrees u) u
-held_closed came count held u h = counted_closed came count held u h.counted h.same
+held_closed : (came : ℕ) (count : Maybe ℕ) (held u : List ℕ) → Held count held u → closed came (held_count count) held ≡ judged came (length u) (agrees u) u
+held_closed came count held u h = counted_closed came (held_count count) held u h.counted h.same
 
 -- ---- what a part of it stands for
 
@@ -101,8 +71,9 @@ plain_judged s n came a e c =
     counted_closed came n s s e (λ h. take_all n s (omega (arith, e))) ∙ ap₂ judged_body c (sym itself)
 
 -- an escape, and what follows it
-abbrev paired : ℕ → Option (List ℕ) → Option (List ℕ)
-paired v o = cond (eqb v 0) none (with_first v o)
+abbrev paired : Maybe ℕ → Option (List ℕ) → Option (List ℕ)
+paired None o = none
+paired (Some v) o = with_first v o
 
 pair_means : (s : List ℕ) (j : ℕ) → j < length s → get_or s j 0 ≡ escape → unstuffed false (drop j s) ≡ paired (pair_at s j) (unstuffed false (drop (j + 2) s))
 pair_means s j h e = ap (unstuffed false) (drop-cons s j 0 h) ∙ ap (λ (b : ℕ). unstuffed false (b ∷ drop (suc j) s)) e ∙ second
@@ -111,7 +82,7 @@ pair_means s j h e = ap (unstuffed false) (drop-cons s j 0 h) ∙ ap (λ (b : �
     two = omega arith
 
     by_byte : (x : ℕ) (rest : List ℕ) (p q : Bool) → eqb x flag_pair ≡ p → eqb x escape_pair ≡ q
-        → unstuffed true (x ∷ rest) ≡ paired (cond p flag (cond q escape 0)) (unstuffed false rest)
+        → unstuffed true (x ∷ rest) ≡ paired (cond p (Some flag) (cond q (Some escape) None)) (unstuffed false rest)
     by_byte x rest true q e f = rw e
     by_byte x rest false true e f = rw (e, f)
     by_byte x rest false false e f = rw (e, f)
@@ -122,24 +93,16 @@ pair_means s j h e = ap (unstuffed false) (drop-cons s j 0 h) ∙ ap (λ (b : �
           | yes y ↦ (
               ap (unstuffed true) (drop-cons s (suc j) 0 y)
               ∙ by_byte (get_or s (suc j) 0) (drop (suc (suc j)) s) _ _ refl refl
-              ∙ ap₂ (λ (n : ℕ) (l : List ℕ). paired (cond (eqb (get_or s n 0) flag_pair) flag (cond (eqb (get_or s n 0) escape_pair) escape 0)) (unstuffed false l)) (sym (add-one j)) (ap (λ (n : ℕ). drop n s) two))
+              ∙ ap₂ (λ (n : ℕ) (l : List ℕ). paired (cond (eqb (get_or s n 0) flag_pair) (Some flag) (cond (eqb (get_or s n 0) escape_pair) (Some escape) None)) (unstuffed false l)) (sym (add-one j)) (ap (λ (n : ℕ). drop n s) two))
           | no y ↦ (
               let le : length s ≤ suc j = omega arith in
               ap (unstuffed true) (drop_of_length-le s le)
-              ∙ sym (ap (λ (x : ℕ). paired (cond (eqb x flag_pair) flag (cond (eqb x escape_pair) escape 0)) (unstuffed false (drop (j + 2) s))) (get_or-eq_default s 0 {n = j + 1} (omega arith))))
+              ∙ sym (ap (λ (x : ℕ). paired (cond (eqb x flag_pair) (Some flag) (cond (eqb x escape_pair) (Some escape) None)) (unstuffed false (drop (j + 2) s))) (get_or-eq_default s 0 {n = j + 1} (omega arith))))
         ]
-
--- a pair that stands for a byte stands inside the stretch
-pub pair_within : (s : List ℕ) (j v : ℕ) → v ≡ pair_at s j → (v ≡ 0 → ⊥) → j + 2 ≤ length s
-pair_within s j v p n =
-    elim (dec_le (j + 2) (length s)) [
-      | yes y ↦ y
-      | no y ↦ absurd (n (p ∙ ap (λ (x : ℕ). cond (eqb x flag_pair) flag (cond (eqb x escape_pair) escape 0)) (get_or-eq_default s 0 {n = j + 1} (omega arith))))
-    ]
 
 -- ---- so far: of the body that the stretch s stands for a front is held, and from i on it stands for the rest
 
-pub record SoFar (s : List ℕ) (count : ℕ) (held : List ℕ) (i : ℕ) : Type 0 where
+pub record SoFar (s : List ℕ) (count : Maybe ℕ) (held : List ℕ) (i : ℕ) : Type 0 where
   pub front : List ℕ
   pub holds : Held count held front
   pub means : unstuffed false s ≡ ahead front (unstuffed false (drop i s))
@@ -148,10 +111,10 @@ ahead_ahead : (u w : List ℕ) (o : Option (List ℕ)) → ahead u (ahead w o) �
 ahead_ahead u w none = refl
 ahead_ahead u w (some v) = ap some (sym (append_assoc u w v))
 
-so_far_none : (s held : List ℕ) → length held ≡ body_max → SoFar s 0 held 0
+so_far_none : (s held : List ℕ) → length held ≡ body_max → SoFar s (Some 0) held 0
 so_far_none s held w = record { front = []; holds = held_none held w; means = unstuffed_part [] s tt }
 
-pub so_far_part : (s : List ℕ) (count : ℕ) (held : List ℕ) (i j : ℕ) (r : ℕ) (later : List ℕ) → SoFar s count held i → Searched escape s i j → Keeps count held (part i j s) r later → SoFar s r later j
+pub so_far_part : (s : List ℕ) (count : Maybe ℕ) (held : List ℕ) (i j : ℕ) (r : Maybe ℕ) (later : List ℕ) → SoFar s count held i → Searched escape s i j → Keeps count held (part i j s) r later → SoFar s r later j
 so_far_part s count held i j r later f g k =
     record {
       front = f.front ++ part i j s;
@@ -163,35 +126,32 @@ so_far_part s count held i j r later f g k =
     }
 
 -- the first part
-pub so_far_first : (s held : List ℕ) (j r : ℕ) (later : List ℕ) → length held ≡ body_max → Searched escape s 0 j → Keeps 0 held (take j s) r later → SoFar s r later j
+pub so_far_first : (s held : List ℕ) (j : ℕ) (r : Maybe ℕ) (later : List ℕ) → length held ≡ body_max → Searched escape s 0 j → Keeps (Some 0) held (take j s) r later → SoFar s r later j
 so_far_first s held j r later w g k =
     let e : j ≡ j - 0 = omega arith in
-    so_far_part s 0 held 0 j r later (so_far_none s held w) g (subst (λ (n : ℕ). Keeps 0 held (take n s) r later) e k)
+    so_far_part s (Some 0) held 0 j r later (so_far_none s held w) g (subst (λ (n : ℕ). Keeps (Some 0) held (take n s) r later) e k)
 
-pub so_far_pair : (s : List ℕ) (count : ℕ) (held : List ℕ) (j v : ℕ) (r : ℕ) (later : List ℕ) → SoFar s count held j → j < length s → get_or s j 0 ≡ escape → v ≡ pair_at s j → (v ≡ 0 → ⊥)
+pub so_far_pair : (s : List ℕ) (count : Maybe ℕ) (held : List ℕ) (j v : ℕ) (r : Maybe ℕ) (later : List ℕ) → SoFar s count held j → j < length s → get_or s j 0 ≡ escape → Some v ≡ pair_at s j
     → Keeps count held (v ∷ []) r later → SoFar s r later (j + 2)
-so_far_pair s count held j v r later f h e p n k =
+so_far_pair s count held j v r later f h e p k =
     record {
       front = f.front ++ (v ∷ []);
       holds = k f.front f.holds;
       means =
           f.means
-          ∙ ap (ahead f.front) (pair_means s j h e ∙ ap (λ (x : ℕ). paired x (unstuffed false (drop (j + 2) s))) (sym p) ∙ unbroken (unstuffed false (drop (j + 2) s)))
+          ∙ ap (ahead f.front) (pair_means s j h e ∙ ap (λ (x : Maybe ℕ). paired x (unstuffed false (drop (j + 2) s))) (sym p))
           ∙ ahead_front f.front v (unstuffed false (drop (j + 2) s));
     }
-  where
-    unbroken : (o : Option (List ℕ)) → paired v o ≡ with_first v o
-    unbroken o = rw (ne_eqb v 0 n)
 
-pub so_far_broken : (s : List ℕ) (count : ℕ) (held : List ℕ) (j v came : ℕ) → SoFar s count held j → j < length s → get_or s j 0 ≡ escape → v ≡ pair_at s j → v ≡ 0 → came ≡ lost_of s
+pub so_far_broken : (s : List ℕ) (count : Maybe ℕ) (held : List ℕ) (j came : ℕ) → SoFar s count held j → j < length s → get_or s j 0 ≡ escape → None ≡ pair_at s j → came ≡ lost_of s
     → Unstuffs s (Broken came) held
 unfolding judge
-so_far_broken s count held j v came f h e p z c =
-    let nothing : unstuffed false s ≡ none = f.means ∙ ap (ahead f.front) (pair_means s j h e ∙ ap (λ (x : ℕ). paired x (unstuffed false (drop (j + 2) s))) (sym p ∙ z)) in
-    (f.holds.wide, ap some (ap₂ judged_body c (sym nothing)))
+so_far_broken s count held j came f h e p c =
+    let nothing : unstuffed false s ≡ none = f.means ∙ ap (ahead f.front) (pair_means s j h e ∙ ap (λ (x : Maybe ℕ). paired x (unstuffed false (drop (j + 2) s))) (sym p)) in
+    ap₂ judged_body c (sym nothing)
 
-pub so_far_all : (s : List ℕ) (count : ℕ) (held : List ℕ) (i came : ℕ) → SoFar s count held i → length s ≤ i → came ≡ lost_of s → Unstuffs s (Closed count came) held
+pub so_far_all : (s : List ℕ) (count : Maybe ℕ) (held : List ℕ) (i came : ℕ) → SoFar s count held i → length s ≤ i → came ≡ lost_of s → Unstuffs s (Whole (held_count count) came) held
 unfolding judge
 so_far_all s count held i came f h c =
     let all : unstuffed false s ≡ some f.front = f.means ∙ ap (λ (l : List ℕ). ahead f.front (unstuffed false l)) (drop_of_length-le s h) ∙ ap some (append-nil f.front) in
-    (f.holds.wide, ap some (held_closed came count held f.front f.holds ∙ ap₂ judged_body c (sym all)))
+    held_closed came count held f.front f.holds ∙ ap₂ judged_body c (sym all)

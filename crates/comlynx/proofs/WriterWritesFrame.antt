@@ -1,5 +1,6 @@
 -- What the writer's calls make of the lent buffer: a frame, and then what was there.
 -- Assumes nothing.
+use Rattle.std.specs.Prelude.{Ok, Err}
 use Prim.Native.Nat.{ℕ, ◌+◌, ◌≤◌, ◌<◌}
 use mathlib.Core.Path.{◌≡◌, sym, ap, ◌∙◌}
 use mathlib.Core.List.{List, [], ◌∷◌, ◌++◌}
@@ -7,7 +8,6 @@ use lib.ListN.{length, drop}
 use lib.Seq.{sets}
 use borrow.Author.Tests.{lt-ltb, le-ltb}
 use native.Mathlib.Omega.{arith}
-use Rattle.answers.specs.declared.Written.TheVariants.{Done, Refused}
 use Rattle.answers.specs.declared.Refusal.TheVariants.{TooLong, NoRoom}
 use Rattle.answers.proofs.WriterPromise.{writes_too_long, writes_no_room, writes_done}
 use Rattle.comlynx_checksum.specs.Checksum.{checksum_of, sent_after, sent, IsOfBoth, IsSentOf}
@@ -39,15 +39,15 @@ module _ (s d k : ℕ) (bs lent : List ℕ) where
     exact = sym (framed_length h bs l) ∙ ap length framed_wire
 
     -- the ends of the writer
-    pub no_room : length bs ≤ payload_max → length lent < length (stuffed h) + length (stuffed bs) + length (stuffed l) + 2 → IsWritten s d k bs lent (Refused NoRoom) lent
+    pub no_room : length bs ≤ payload_max → length lent < length (stuffed h) + length (stuffed bs) + length (stuffed l) + 2 → IsWritten s d k bs lent (Err NoRoom) lent
     no_room fits r = rw (le-ltb payload_max (length bs) fits) (writes_no_room (wire M) lent (omega (arith, exact)))
 
     pub done : (n : ℕ) (later : List ℕ) → length bs ≤ payload_max → n ≡ length (stuffed h) + length (stuffed bs) + length (stuffed l) + 2 → n ≤ length lent
-        → later ≡ sets lent 0 (framed h bs l) → IsWritten s d k bs lent (Done n) later
+        → later ≡ sets lent 0 (framed h bs l) → IsWritten s d k bs lent (Ok n) later
     done n later fits e r q =
         let count : n ≡ length (wire M) = e ∙ exact in
         let frame : later ≡ wire M ++ drop (length (wire M)) lent = q ∙ ap (sets lent 0) framed_wire ∙ sets_front (wire M) lent (omega arith) in
         rw (le-ltb payload_max (length bs) fits, count, frame) (writes_done (wire M) lent (omega arith))
 
-  pub too_long : payload_max < length bs → IsWritten s d k bs lent (Refused TooLong) lent
+  pub too_long : payload_max < length bs → IsWritten s d k bs lent (Err TooLong) lent
   too_long h = rw (lt-ltb payload_max (length bs) h) (writes_too_long (wire M) lent)

@@ -1,7 +1,7 @@
 -- ComLynx as a family, and what is demanded of it: as of every family, and what is its own.
 use Rattle.std.specs.Prelude.{ℕ, min, ◌+◌, ◌≤◌, ◌≡◌, Bool, true, false, cond, ◌||◌, List, [], ◌∷◌, ◌++◌, length, eqb}
 use Rattle.answers.specs.Written.{length_of}
-use Rattle.answers.specs.declared.Written.{Written}
+use Rattle.answers.specs.Written.{Written}
 use Rattle.stream.specs.Event.{Event, damage}
 use Rattle.stream.specs.Call.{seen_by}
 use Rattle.stream.specs.Written.{Each}

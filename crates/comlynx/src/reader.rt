@@ -15,11 +15,11 @@ ghost use Rattle.comlynx.specs.declared.reader.Answer.TheVariants.{Damaged};
 ghost use Rattle.comlynx.specs.Machine.{more, keep_of, advance_of, in_range, closed};
 ghost use Rattle.comlynx.specs.Wire.{body_max};
 ghost use Rattle.comlynx.specs.Reader.{IsFresh, IsStep, IsStepInPlace};
-ghost use Rattle.comlynx.specs.Inside.{run_length, AllPlain, Filled, Runs, event_of, due, Judges, JudgedAs, Small, There, given};
+ghost use Rattle.comlynx.specs.Inside.{Filled, Runs, event_of, event_at, due, Finds, JudgedAs, Small, There, given, refuses};
 
 use crate::checksum;
+use crate::search::either_from;
 use answers::{Damage, Refusal};
-use numbers::{least, wide, word};
 
 // The limits, named here because the reader's own constants cannot size its own array. FF 03, source, destination, size and type come before the data.
 const HEADER: usize = 8;
@@ -83,7 +83,8 @@ pub struct StepInPlace {
     pub used: usize,
 }
 
-// The stages: before the first flag; in a stretch; after its escape; in a stretch with a broken pair.
+// The stages: before the first flag; in a stretch; after its escape; in a stretch with a broken pair. They are numbers and no enum, since a host may
+// hand back a stage that is none of them, and is refused by `IsStepInPlace`.
 const BEFORE: u8 = 0;
 
 const INSIDE: u8 = 1;
@@ -96,7 +97,7 @@ const BROKEN: u8 = 3;
 pub(crate) const TOO_MANY: usize = Reader::BODY + 1;
 
 // The number of lost bytes that stands for itself or more.
-pub(crate) const LOST_MAX: u16 = 65535;
+const LOST_MAX: u16 = 65535;
 
 // The two bytes that mean something, and what follows the escape where they are meant themselves.
 pub(crate) const FLAG: u8 = 0x7e;
@@ -112,28 +113,21 @@ pub(crate) const FIRST: u8 = 0xff;
 
 pub(crate) const SECOND: u8 = 0x03;
 
-// Whether stage, bytes come and count are in the stage's range. In a stretch `came` may be any number that its type has.
-fn in_range(stage: u8, came: u16, count: usize) -> bool
-    ensures { result ≡ in_range stage came count }
-{
-    if stage == BEFORE {
-        return (came == 0) & (count == 0);
-    }
-    if BROKEN < stage {
-        return false;
-    }
-    (came <= LOST_MAX) & (count <= TOO_MANY)
-}
-
 // So many bytes more have come.
-fn plus(came: u16, n: usize) -> u16
+pub(crate) fn plus(came: u16, n: usize) -> u16
     ensures { result ≡ more came n }
 {
-    let room = (LOST_MAX - came) as usize;
-    if room < n {
-        return LOST_MAX;
-    }
-    came + n as u16
+    usize::from(came)
+        .saturating_add(n)
+        .min(usize::from(LOST_MAX)) as u16
+}
+
+// Where a reader stands: all of it but the bytes held.
+#[derive(Clone, Copy)]
+struct State {
+    stage: u8,
+    came: u16,
+    count: usize,
 }
 
 // What one byte asks of the reader.
@@ -168,217 +162,170 @@ fn keep(count: usize, v: u8) -> Move
     }
 }
 
-// Says what a byte asks in a stage. No other function decides what a byte means.
-fn advance(stage: u8, count: usize, b: u8) -> Move
-    ensures { result ≡ advance_of stage count b }
-{
-    if stage == BEFORE {
-        if b == FLAG {
-            return Move::Open;
+impl State {
+    // at the beginning of a stretch, right behind a flag
+    const OPENED: State = State {
+        stage: INSIDE,
+        came: 0,
+        count: 0,
+    };
+
+    // Whether bytes come and count are in the stage's range. In a stretch `came` may be any number that its type has.
+    fn in_range(self) -> bool
+        ensures { result ≡ in_range self.stage self.came self.count }
+    {
+        if self.stage == BEFORE {
+            return (self.came == 0) & (self.count == 0);
         }
-        return Move::Skip;
+        if BROKEN < self.stage {
+            return false;
+        }
+        (self.came <= LOST_MAX) & (self.count <= TOO_MANY)
     }
-    if stage == INSIDE {
-        if b == FLAG {
-            if count == 0 {
+
+    // Says what a byte asks. No other function decides what a byte means.
+    fn advance(self, b: u8) -> Move
+        ensures { result ≡ advance_of self.stage self.count b }
+    {
+        if self.stage == BEFORE {
+            if b == FLAG {
                 return Move::Open;
             }
-            return Move::Close;
+            return Move::Skip;
         }
-        if b == ESCAPE {
-            return Move::Mark;
+        if self.stage == INSIDE {
+            if b == FLAG {
+                if self.count == 0 {
+                    return Move::Open;
+                }
+                return Move::Close;
+            }
+            if b == ESCAPE {
+                return Move::Mark;
+            }
+            return keep(self.count, b);
         }
-        return keep(count, b);
-    }
-    if stage == ESCAPED {
+        if self.stage == ESCAPED {
+            if b == FLAG {
+                return Move::Fail;
+            }
+            if b == FLAG_PAIR {
+                return keep(self.count, FLAG);
+            }
+            if b == ESCAPE_PAIR {
+                return keep(self.count, ESCAPE);
+            }
+            return Move::Spoil;
+        }
         if b == FLAG {
             return Move::Fail;
         }
-        if b == FLAG_PAIR {
-            return keep(count, FLAG);
-        }
-        if b == ESCAPE_PAIR {
-            return keep(count, ESCAPE);
-        }
-        return Move::Spoil;
+        Move::Spoil
     }
-    if b == FLAG {
-        return Move::Fail;
-    }
-    Move::Spoil
 }
 
-// How a run over a piece ended.
+// How a stretch came to the flag that closes it.
 #[derive(Clone, Copy)]
-pub(crate) enum End {
-    UsedUp,
-    // at the flag that closes a stretch of so many unstuffed bytes, for which so many came
-    Closed { count: usize, came: u16 },
-    // at the flag that closes a stretch with a broken pair, for which so many bytes came
+pub(crate) enum Closed {
+    // with so many unstuffed bytes, for which so many came
+    Whole { count: usize, came: u16 },
+    // with a broken pair, and so many bytes came for it
     Broken { came: u16 },
 }
 
 // What a run hands back beside the held bytes.
 #[derive(Clone, Copy)]
 struct Ran {
-    stage: u8,
-    came: u16,
-    count: usize,
+    state: State,
     used: usize,
-    end: End,
-}
-
-// How many bytes are looked at together.
-pub(crate) const RUN: usize = 16;
-
-// Whether the next RUN bytes are all plain: neither flag nor escape.
-fn plain(s: &[u8], at: usize) -> bool
-    requires { at + run_length ≤ length s.now }
-    ensures { result ≡ true → AllPlain s.now at run_length }
-{
-    let mut good = true;
-    let mut k: usize = 0;
-    while k < RUN {
-        let b = s[at + k];
-        good = good & (b != FLAG) & (b != ESCAPE);
-        k += 1;
-    }
-    good
-}
-
-// Takes in the next RUN bytes, which are plain.
-fn take_in(count: usize, held: &mut [u8], piece: &[u8], at: usize)
-    requires { (count + run_length ≤ body_max) × (at + run_length ≤ length piece.now) × (length held.old ≡ body_max) × AllPlain piece.now at run_length }
-    ensures { Filled count held.old piece.now at (at + run_length) held.new }
-{
-    let mut k: usize = 0;
-    while k < RUN {
-        held[count + k] = piece[at + k];
-        k += 1;
-    }
-}
-
-// Takes in plain bytes from `from` on by runs, up to `stop` at most; gives the index after the last.
-fn fill_runs(count: usize, held: &mut [u8], piece: &[u8], from: usize, stop: usize) -> usize
-    requires { (from ≤ stop) × (stop ≤ length piece.now) × (count + (stop - from) ≤ body_max) × (length held.old ≡ body_max) }
-    ensures { (result ≤ stop) × Filled count held.old piece.now from result held.new }
-{
-    let mut at = count;
-    let mut i = from;
-    while RUN <= stop - i {
-        if plain(piece, i) {
-            take_in(at, held, piece, i);
-            at += RUN;
-            i += RUN;
-        } else {
-            break;
-        }
-    }
-    i
-}
-
-// The same byte by byte.
-fn fill_bytes(count: usize, held: &mut [u8], piece: &[u8], from: usize, stop: usize) -> usize
-    requires { (from ≤ stop) × (stop ≤ length piece.now) × (count + (stop - from) ≤ body_max) × (length held.old ≡ body_max) }
-    ensures { (result ≤ stop) × Filled count held.old piece.now from result held.new }
-{
-    let mut at = count;
-    let mut i = from;
-    while i < stop {
-        let b = piece[i];
-        if (b == FLAG) | (b == ESCAPE) {
-            break;
-        }
-        held[at] = b;
-        at += 1;
-        i += 1;
-    }
-    i
+    // none where the piece is used up
+    end: Option<Closed>,
 }
 
 // Takes in plain bytes from `from` on while there is room; gives the index after the last.
-fn fill(count: usize, held: &mut [u8], piece: &[u8], from: usize) -> usize
-    requires { (count ≤ body_max) × (from ≤ length piece.now) × (length held.old ≡ body_max) }
+fn fill(count: usize, held: &mut [u8; BODY], piece: &[u8], from: usize) -> usize
+    requires { (count ≤ body_max) × (from ≤ length piece.now) }
     ensures { Filled count held.old piece.now from result held.new }
 {
-    let stop = from + least(piece.len() - from, Reader::BODY - count);
-    let i = fill_runs(count, held, piece, from, stop);
-    let at = count + (i - from);
-    fill_bytes(at, held, piece, i, stop)
+    // a piece of one byte has no more: the search and the copy would be asked for nothing
+    if from == piece.len() {
+        return from;
+    }
+    let stop = from + (piece.len() - from).min(Reader::BODY - count);
+    let end = either_from::<FLAG, ESCAPE>(&piece[..stop], from);
+    held[count..count + (end - from)].copy_from_slice(&piece[from..end]);
+    end
 }
 
 // The piece, byte by byte, up to the flag that settles something or the end of the piece. It knows no checksum.
-// It is long because each move has its arm here: a call from an arm would have to lend the whole state.
-fn run_in(stage: u8, came: u16, count: usize, held: &mut [u8], piece: &[u8]) -> Ran
-    requires { (in_range stage came count ≡ true) × (length held.old ≡ body_max) }
-    ensures { Runs stage came count held.old piece.now result held.new }
+// It is long because each move has its arm here: a call from an arm would have to lend the whole state. It counts its index by hand, since a turn that
+// keeps a byte also takes in those that `fill` finds behind it.
+fn run_in(state: State, held: &mut [u8; BODY], piece: &[u8]) -> Ran
+    requires { in_range state.stage state.came state.count ≡ true }
+    ensures { Runs state held.old piece.now result held.new }
 {
-    let mut stage = stage;
-    let mut came = came;
-    let mut count = count;
+    let mut state = state;
     let mut i: usize = 0;
     while i < piece.len() {
         let b = piece[i];
-        let m = advance(stage, count, b);
+        let m = state.advance(b);
         i += 1;
         match m {
             Move::Skip => {}
             Move::Open => {
-                stage = INSIDE;
-                came = 0;
-                count = 0;
+                state = State::OPENED;
             }
             Move::Mark => {
-                stage = ESCAPED;
-                came = plus(came, 1);
+                state.stage = ESCAPED;
+                state.came = plus(state.came, 1);
             }
             Move::Spoil => {
-                stage = BROKEN;
-                came = plus(came, 1);
+                state.stage = BROKEN;
+                state.came = plus(state.came, 1);
             }
             Move::Keep(v) => {
-                held[count] = v;
-                let next = count + 1;
+                held[state.count] = v;
+                let next = state.count + 1;
                 let j = fill(next, held, piece, i);
-                stage = INSIDE;
-                came = plus(came, 1 + (j - i));
-                count = next + (j - i);
+                state = State {
+                    stage: INSIDE,
+                    came: plus(state.came, 1 + (j - i)),
+                    count: next + (j - i),
+                };
                 i = j;
             }
             Move::Over => {
-                stage = INSIDE;
-                came = plus(came, 1);
-                count = TOO_MANY;
+                state = State {
+                    stage: INSIDE,
+                    came: plus(state.came, 1),
+                    count: TOO_MANY,
+                };
             }
             Move::Close => {
-                let end = End::Closed { count, came };
+                let end = Closed::Whole {
+                    count: state.count,
+                    came: state.came,
+                };
                 return Ran {
-                    stage: INSIDE,
-                    came: 0,
-                    count: 0,
+                    state: State::OPENED,
                     used: i,
-                    end,
+                    end: Some(end),
                 };
             }
             Move::Fail => {
-                let end = End::Broken { came };
+                let end = Closed::Broken { came: state.came };
                 return Ran {
-                    stage: INSIDE,
-                    came: 0,
-                    count: 0,
+                    state: State::OPENED,
                     used: i,
-                    end,
+                    end: Some(end),
                 };
             }
         }
     }
-    let end = End::UsedUp;
     Ran {
-        stage,
-        came,
-        count,
+        state,
         used: i,
-        end,
+        end: None,
     }
 }
 
@@ -389,7 +336,7 @@ fn sized(count: usize) -> bool
     (Reader::HEADER + SUM <= count) & (count <= Reader::BODY)
 }
 
-// Whether what is held begins FF 03.
+// Whether what is held begins FF 03. Two single bytes, here and in `ends`: arrays made of them to be compared would be no plainer.
 fn begins(held: &[u8]) -> bool
     requires { 2 ≤ length held.now }
     ensures { result ≡ begins held.now }
@@ -405,13 +352,6 @@ fn ends(count: usize, low: u8, high: u8, held: &[u8]) -> bool
     (held[count - SUM] == low) & (held[count - 1] == high)
 }
 
-// How many bytes the checksum takes: all but its own two. A stretch that is too short for them is a damage, whatever its sum.
-fn covered(count: usize) -> usize
-    ensures { result ≡ count - 2 }
-{
-    if count < SUM { 0 } else { count - SUM }
-}
-
 // A damage of a stretch for which `lost` bytes came.
 fn damaged(what: Damage, lost: u16) -> Answer
     ensures { result ≡ Damaged what lost }
@@ -419,55 +359,66 @@ fn damaged(what: Damage, lost: u16) -> Answer
     Answer::Damaged { what, lost }
 }
 
-// The checks of a closed stretch in order, by its `count` unstuffed bytes and the two checksum bytes that are due. `came` bytes are lost if one fails.
+// The checks of a closed stretch in order, by its `count` unstuffed bytes and the two checksum bytes that are due: its header, or what is wrong.
 // Of the unstuffed bytes there need be no more than a body may have.
-fn judge_frame(count: usize, came: u16, low: u8, high: u8, held: &[u8]) -> Answer
+fn judge_frame(count: usize, low: u8, high: u8, held: &[u8]) -> Result<Header, Damage>
     requires { min count body_max ≤ length held.now }
-    ensures { Judges count came low high held.now result }
+    ensures { Finds count low high held.now result }
 {
     if !sized(count) {
-        return damaged(Damage::WrongBodyLength, came);
+        return Err(Damage::WrongBodyLength);
     }
     if !begins(held) {
-        return damaged(Damage::WrongStart, came);
+        return Err(Damage::WrongStart);
     }
     let len = count - Reader::HEADER - SUM;
-    if wide(held[6]) != len {
-        return damaged(Damage::WrongSize, came);
+    if usize::from(held[6]) != len {
+        return Err(Damage::WrongSize);
     }
     if !ends(count, low, high, held) {
-        return damaged(Damage::WrongSum, came);
+        return Err(Damage::WrongSum);
     }
-    let source = word(held[2], held[3]);
-    let destination = word(held[4], held[5]);
-    let header = Header {
+    let source = u16::from_be_bytes([held[2], held[3]]);
+    let destination = u16::from_be_bytes([held[4], held[5]]);
+    Ok(Header {
         source,
         destination,
         kind: held[7],
         len,
-    };
-    Answer::Message(header)
+    })
 }
 
-// What a closed stretch comes to. The checksum is asked for here, once.
+// What a closed stretch comes to; all of it is lost with a damage. The checksum is asked for here, once.
 pub(crate) fn judge_closed(count: usize, came: u16, held: &[u8]) -> Answer
     requires { min count body_max ≤ length held.now }
     ensures { JudgedAs (some (closed came count held.now)) result }
 {
-    let sum = checksum::of_first(held, covered(count));
+    // all but its own two: a stretch that is too short for them is a damage, whatever its sum
+    let sum = checksum::of_first(held, count.saturating_sub(SUM));
     let due = checksum::sent_of(sum);
-    judge_frame(count, came, due.low, due.high, held)
+    match judge_frame(count, due.low, due.high, held) {
+        Ok(header) => Answer::Message(header),
+        Err(what) => damaged(what, came),
+    }
+}
+
+// What a stretch comes to at the flag that closes it.
+pub(crate) fn judge(end: Closed, held: &[u8; BODY]) -> Answer
+    ensures { JudgedAs (some (event_of end held.now)) result }
+{
+    match end {
+        Closed::Whole { count, came } => judge_closed(count, came, held),
+        Closed::Broken { came } => damaged(Damage::BrokenPair, came),
+    }
 }
 
 // What the end of a run comes to.
-pub(crate) fn judge(end: End, held: &[u8]) -> Answer
-    requires { length held.now ≡ body_max }
-    ensures { JudgedAs (event_of end held.now) result }
+fn answer_to(end: Option<Closed>, held: &[u8; BODY]) -> Answer
+    ensures { JudgedAs (event_at end held.now) result }
 {
     match end {
-        End::UsedUp => Answer::Done,
-        End::Closed { count, came } => judge_closed(count, came, held),
-        End::Broken { came } => damaged(Damage::BrokenPair, came),
+        None => Answer::Done,
+        Some(end) => judge(end, held),
     }
 }
 
@@ -476,15 +427,22 @@ pub(crate) fn deliver(answer: Answer, held: &[u8], lent: &mut [u8])
     requires { Small answer × There answer held.now × (lent_least ≤ length lent.old) }
     ensures { lent.new ≡ given answer held.now lent.old }
 {
-    match answer {
-        Answer::Message(h) => {
-            let n = h.len;
-            let end = Reader::HEADER + n;
-            lent[..n].copy_from_slice(&held[Reader::HEADER..end]);
-        }
-        Answer::Done => {}
-        Answer::Damaged { what: _, lost: _ } => {}
-        Answer::Refused(_) => {}
+    if let Answer::Message(h) = answer {
+        let end = Reader::HEADER + h.len;
+        lent[..h.len].copy_from_slice(&held[Reader::HEADER..end]);
+    }
+}
+
+// Refused, with the state as it was and nothing used.
+fn refused(state: State, why: Refusal) -> StepInPlace
+    ensures { result ≡ refuses state why }
+{
+    StepInPlace {
+        stage: state.stage,
+        came: state.came,
+        count: state.count,
+        answer: Answer::Refused(why),
+        used: 0,
     }
 }
 
@@ -500,35 +458,24 @@ pub fn step_in_place(
 ) -> StepInPlace
     ensures { IsStepInPlace stage came count held.old piece.now lent.old result held.new lent.new }
 {
-    let whole = (held.len() == BODY) & in_range(stage, came, count);
-    if !whole {
-        let answer = Answer::Refused(Refusal::Spoilt);
-        return StepInPlace {
-            stage,
-            came,
-            count,
-            answer,
-            used: 0,
-        };
+    let state = State { stage, came, count };
+    let spoilt = refused(state, Refusal::Spoilt);
+    let Some(held) = held.as_mut_array() else {
+        return spoilt;
+    };
+    if !state.in_range() {
+        return spoilt;
     }
     if lent.len() < Reader::LENT {
-        let answer = Answer::Refused(Refusal::NoRoom);
-        return StepInPlace {
-            stage,
-            came,
-            count,
-            answer,
-            used: 0,
-        };
+        return refused(state, Refusal::NoRoom);
     }
-    let ran = run_in(stage, came, count, held, piece);
-    let end = ran.end;
-    let answer = judge(end, &*held);
+    let ran = run_in(state, held, piece);
+    let answer = answer_to(ran.end, &*held);
     deliver(answer, &*held, lent);
     StepInPlace {
-        stage: ran.stage,
-        came: ran.came,
-        count: ran.count,
+        stage: ran.state.stage,
+        came: ran.state.came,
+        count: ran.state.count,
         answer,
         used: ran.used,
     }

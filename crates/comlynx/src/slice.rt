@@ -39,7 +39,7 @@ fn opened(slice: &[u8], place: usize) -> usize
     if after_flag(slice, place) {
         return place;
     }
-    byte_from(FLAG, slice, place)
+    byte_from::<FLAG>(slice, place)
 }
 
 // Passes over flags: between two of them that stand side by side is an empty stretch, which gives nothing.
@@ -47,14 +47,12 @@ fn past_flags(slice: &[u8], from: usize) -> usize
     requires { from ≤ length slice.now }
     ensures { PastFlags slice.now from result }
 {
-    let mut i = from;
-    while i < slice.len() {
+    for i in from..slice.len() {
         if slice[i] != FLAG {
-            break;
+            return i;
         }
-        i += 1;
     }
-    i
+    slice.len()
 }
 
 // The first stretch from a place on that is not empty, judged.
@@ -63,7 +61,7 @@ fn answer_from(slice: &[u8], place: usize, lent: &mut [u8]) -> Found
     ensures { AnswerFrom slice.now place lent.old result lent.new }
 {
     let first = past_flags(slice, opened(slice, place));
-    let close = byte_from(FLAG, slice, first);
+    let close = byte_from::<FLAG>(slice, first);
     if slice.len() <= close {
         let answer = Answer::Done;
         return Found {

@@ -2,96 +2,74 @@
 //
 // Most have no escape, and such a stretch is judged where it lies. What any other stands for is taken in by parts: up to the next escape all bytes
 // stand for themselves.
-ghost use Rattle.std.specs.Prelude.{min, ◌<◌, ◌≤◌, ◌≡◌, [], ◌∷◌, length};
+ghost use Rattle.std.specs.Prelude.{◌<◌, ◌≤◌, ◌≡◌, length};
 ghost use Rattle.stream.specs.Call.{lent_least};
-ghost use Rattle.comlynx.specs.Wire.{escape, body_max};
-ghost use Rattle.comlynx.specs.Rules.{lost_max};
-ghost use Rattle.comlynx.specs.Machine.{too_many};
+ghost use Rattle.comlynx.specs.Wire.{escape};
 ghost use Rattle.comlynx.specs.Stretch.{IsJudged};
-ghost use Rattle.comlynx.specs.Inside.{Absent, FirstAt, Keeps, pair_at, Unstuffs, Settles};
+ghost use Rattle.comlynx.specs.Inside.{Absent, FirstAt, Roomy, Keeps, pair_at, Unstuffs, Settles};
 
 use crate::reader::{
-    Answer, ESCAPE, ESCAPE_PAIR, End, FLAG, FLAG_PAIR, LOST_MAX, Reader, TOO_MANY, deliver, judge,
-    judge_closed,
+    Answer, Closed, ESCAPE, ESCAPE_PAIR, FLAG, FLAG_PAIR, Reader, TOO_MANY, deliver, judge,
+    judge_closed, plus,
 };
 use crate::search::byte_from;
 use answers::Refusal;
-use numbers::least;
 
-// Takes in bytes that stand for themselves, where there is room for all of them. Gives how many are held then, or TOO_MANY: a stretch that has
-// more than a body may have is a damage, whatever is held of it.
-fn keep_part(count: usize, held: &mut [u8], part: &[u8]) -> usize
-    requires { (length held.old ≡ body_max) × (count ≤ too_many) }
+// Takes in more bytes of the body, where there is room for all of them. Gives how many are held then, or none: a stretch that has more than a body may
+// have is a damage, whatever is held of it.
+fn keep_part(count: Option<usize>, held: &mut [u8; Reader::BODY], part: &[u8]) -> Option<usize>
+    requires { Roomy count }
     ensures { Keeps count held.old part.now result held.new }
 {
-    if Reader::BODY < count {
-        return TOO_MANY;
-    }
+    let count = count?;
     if Reader::BODY - count < part.len() {
-        return TOO_MANY;
+        return None;
     }
     let end = count + part.len();
     held[count..end].copy_from_slice(part);
-    end
+    Some(end)
 }
 
-// The same of the one byte that a pair stands for.
-fn keep_one(count: usize, held: &mut [u8], v: u8) -> usize
-    requires { (length held.old ≡ body_max) × (count ≤ too_many) }
-    ensures { Keeps count held.old (v ∷ []) result held.new }
-{
-    if Reader::BODY <= count {
-        return TOO_MANY;
-    }
-    held[count] = v;
-    count + 1
-}
-
-// What the escape at `at` and the byte after it stand for; 0 where the pair is broken.
-fn pair_at(stretch: &[u8], at: usize) -> u8
+// What the escape at `at` and the byte after it stand for; none where the pair is broken.
+fn pair_at(stretch: &[u8], at: usize) -> Option<u8>
     requires { at < length stretch.now }
     ensures { result ≡ pair_at stretch.now at }
 {
     if stretch.len() - at < 2 {
-        return 0;
+        return None;
     }
     let b = stretch[at + 1];
     if b == FLAG_PAIR {
-        return FLAG;
+        return Some(FLAG);
     }
     if b == ESCAPE_PAIR {
-        return ESCAPE;
+        return Some(ESCAPE);
     }
-    0
-}
-
-// So many bytes came, LOST_MAX standing for that or more.
-fn came_of(n: usize) -> u16
-    ensures { result ≡ min n lost_max }
-{
-    least(n, LOST_MAX as usize) as u16
+    None
 }
 
 // Unstuffs a stretch into `held`, and says how it ends; its first escape stands at `first`. It is searched for a broken pair to its end, however
-// long it is.
-fn unstuff(stretch: &[u8], first: usize, held: &mut [u8]) -> End
-    requires { FirstAt escape stretch.now 0 first × (length held.old ≡ body_max) }
+// long it is. It goes from escape to escape, so that no range is what it counts.
+fn unstuff(stretch: &[u8], first: usize, held: &mut [u8; Reader::BODY]) -> Closed
+    requires { FirstAt escape stretch.now 0 first }
     ensures { Unstuffs stretch.now result held.new }
 {
-    let came = came_of(stretch.len());
-    let mut count = keep_part(0, held, &stretch[..first]);
+    let came = plus(0, stretch.len());
+    let mut count = keep_part(Some(0), held, &stretch[..first]);
     let mut i = first;
     while i < stretch.len() {
-        let v = pair_at(stretch, i);
-        if v == 0 {
-            return End::Broken { came };
-        }
-        let more = keep_one(count, held, v);
+        let Some(v) = pair_at(stretch, i) else {
+            return Closed::Broken { came };
+        };
+        let more = keep_part(count, held, &[v]);
         let next = i + 2;
-        i = byte_from(ESCAPE, stretch, next);
+        i = byte_from::<ESCAPE>(stretch, next);
         count = keep_part(more, held, &stretch[next..i]);
     }
-    End::Closed { count, came }
+    Closed::Whole {
+        count: count.unwrap_or(TOO_MANY),
+        came,
+    }
 }
 
 // Judges a stretch whose first escape stands at `first`, and hands its data over. It is unstuffed for that.
@@ -111,8 +89,8 @@ fn judge_plain(stretch: &[u8], lent: &mut [u8]) -> Answer
     requires { Absent escape stretch.now 0 (length stretch.now) × (lent_least ≤ length lent.old) }
     ensures { Settles stretch.now lent.old result lent.new }
 {
-    let count = least(stretch.len(), TOO_MANY);
-    let answer = judge_closed(count, came_of(stretch.len()), stretch);
+    let count = stretch.len().min(TOO_MANY);
+    let answer = judge_closed(count, plus(0, stretch.len()), stretch);
     deliver(answer, stretch, lent);
     answer
 }
@@ -127,7 +105,7 @@ pub fn judge_stretch(stretch: &[u8], lent: &mut [u8]) -> Answer
     if stretch.len() == 0 {
         return Answer::Done;
     }
-    let first = byte_from(ESCAPE, stretch, 0);
+    let first = byte_from::<ESCAPE>(stretch, 0);
     if first < stretch.len() {
         return judge_stuffed(stretch, first, lent);
     }

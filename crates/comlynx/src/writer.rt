@@ -7,16 +7,14 @@ ghost use Rattle.comlynx.specs.Inside.{Stuffs, framed};
 
 use crate::checksum;
 use crate::reader::{ESCAPE, ESCAPE_PAIR, FIRST, FLAG, FLAG_PAIR, Reader, SECOND};
-use answers::{Refusal, Written};
+use answers::Refusal;
 
 // All that stands before the data.
 fn lead_of(source: u16, destination: u16, size: u8, kind: u8) -> [u8; Reader::HEADER]
     ensures { result ≡ lead source destination size kind }
 {
-    let from_high = (source / 256) as u8;
-    let from_low = (source % 256) as u8;
-    let to_high = (destination / 256) as u8;
-    let to_low = (destination % 256) as u8;
+    let [from_high, from_low] = source.to_be_bytes();
+    let [to_high, to_low] = destination.to_be_bytes();
     [
         FIRST, SECOND, from_high, from_low, to_high, to_low, size, kind,
     ]
@@ -35,12 +33,10 @@ fn stuffed_len(s: &[u8]) -> usize
     ensures { (result ≡ length (stuffed s.now)) × (result ≤ 510) }
 {
     let mut n: u16 = 0;
-    let mut i: usize = 0;
-    while i < s.len() {
-        n += width(s[i]);
-        i += 1;
+    for b in s {
+        n += width(*b);
     }
-    n as usize
+    usize::from(n)
 }
 
 // Stores a byte, stuffed; gives the index after it.
@@ -68,10 +64,8 @@ fn put_stuffed(s: &[u8], lent: &mut [u8], at: usize) -> usize
     ensures { Stuffs s.now at lent.old result lent.new }
 {
     let mut to = at;
-    let mut i: usize = 0;
-    while i < s.len() {
-        to = put(s[i], lent, to);
-        i += 1;
+    for b in s {
+        to = put(*b, lent, to);
     }
     to
 }
@@ -90,12 +84,18 @@ fn put_frame(first: &[u8], payload: &[u8], last: &[u8], lent: &mut [u8])
 
 // Writes a message at the front of `lent`. Nothing is stored before both tests have held. The checksum is asked for here; its own bytes may take
 // stuffing too, so it comes before the test of the room.
-pub fn write(source: u16, destination: u16, kind: u8, payload: &[u8], lent: &mut [u8]) -> Written
+pub fn write(
+    source: u16,
+    destination: u16,
+    kind: u8,
+    payload: &[u8],
+    lent: &mut [u8],
+) -> Result<usize, Refusal>
     ensures { IsWritten source destination kind payload.now lent.old result lent.new }
 {
     let n = payload.len();
     if Reader::PAYLOAD < n {
-        return Written::Refused(Refusal::TooLong);
+        return Err(Refusal::TooLong);
     }
     let first = lead_of(source, destination, n as u8, kind);
     let sum = checksum::of_both(&first, payload);
@@ -104,8 +104,8 @@ pub fn write(source: u16, destination: u16, kind: u8, payload: &[u8], lent: &mut
     let body = stuffed_len(&first) + stuffed_len(payload) + stuffed_len(&last);
     let length = body + 2;
     if lent.len() < length {
-        return Written::Refused(Refusal::NoRoom);
+        return Err(Refusal::NoRoom);
     }
     put_frame(&first, payload, &last, lent);
-    Written::Done(length)
+    Ok(length)
 }

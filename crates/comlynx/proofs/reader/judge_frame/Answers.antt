@@ -15,37 +15,33 @@ less_ten n = omega arith
 
 -- what each test told, where it held
 pub returns-then-not-sized : goal.returns-then-not-sized
-returns-then-not-sized c =
+returns-then-not-sized c came =
     let a = c.args in
-    ap told c.damaged.ensures
-    ∙ judged_length a.count a.came a.low a.high a.held.now c.requires (sym c.sized.ensures ∙ c.if-not-sized.true)
+    judged_length a.count came a.low a.high a.held.now c.requires (sym c.sized.ensures ∙ c.if-not-sized.true)
 
 pub returns-then-not-begins : goal.returns-then-not-begins
-returns-then-not-begins c =
+returns-then-not-begins c came =
     let a = c.args in
-    ap told c.damaged-then-not-begins.ensures
-    ∙ judged_start a.count a.came a.low a.high a.held.now c.requires (sym c.sized.ensures ∙ c.if-not-sized.false) (sym c.begins.ensures ∙ c.if-not-begins.true)
+    judged_start a.count came a.low a.high a.held.now c.requires (sym c.sized.ensures ∙ c.if-not-sized.false) (sym c.begins.ensures ∙ c.if-not-begins.true)
 
-pub returns-then-wide-len : goal.returns-then-wide-len
-returns-then-wide-len c =
+pub returns-then-from-len : goal.returns-then-from-len
+returns-then-from-len c came =
     let a = c.args in
-    ap told c.damaged-then-wide-len.ensures
-    ∙ judged_size a.count a.came a.low a.high a.held.now c.requires (sym c.sized.ensures ∙ c.if-not-sized.false) (sym c.begins.ensures ∙ c.if-not-begins.false)
-    (λ e. c.if-wide-len.true (c.wide.ensures ∙ e ∙ less_ten a.count))
+    judged_size a.count came a.low a.high a.held.now c.requires (sym c.sized.ensures ∙ c.if-not-sized.false) (sym c.begins.ensures ∙ c.if-not-begins.false)
+    (λ e. c.if-from-len.true (c.from.ensures ∙ e ∙ less_ten a.count))
 
 pub returns-then-not-ends : goal.returns-then-not-ends
-returns-then-not-ends c =
+returns-then-not-ends c came =
     let a = c.args in
-    ap told c.damaged-then-not-ends.ensures
-    ∙ judged_sum a.count a.came a.low a.high a.held.now c.requires (sym c.sized.ensures ∙ c.if-not-sized.false) (sym c.begins.ensures ∙ c.if-not-begins.false)
-    (sym c.wide.ensures ∙ c.if-wide-len.false ∙ sym (less_ten a.count)) (sym c.ends.ensures ∙ c.if-not-ends.true)
+    judged_sum a.count came a.low a.high a.held.now c.requires (sym c.sized.ensures ∙ c.if-not-sized.false) (sym c.begins.ensures ∙ c.if-not-begins.false)
+    (sym c.from.ensures ∙ c.if-from-len.false ∙ sym (less_ten a.count)) (sym c.ends.ensures ∙ c.if-not-ends.true)
 
 -- the header that was made
 pub returns : goal.returns
-returns c =
+returns c came =
     let a = c.args in
-    let read : record { source = c.word-source.result; destination = c.word-destination.result; kind = get_or a.held.now 7 0; len = a.count - 8 - 2 } ≡ held_header (a.count - body_least) a.held.now =
-    rw (c.word-source.ensures, c.word-destination.ensures, less_ten a.count) in
+    let read : record { source = c.from_be_bytes-source.result; destination = c.from_be_bytes-destination.result; kind = get_or a.held.now 7 0; len = a.count - 8 - 2 } ≡ held_header (a.count - body_least) a.held.now =
+    rw (c.from_be_bytes-source.ensures, c.from_be_bytes-destination.ensures, less_ten a.count) in
     ap (λ (h : Header). told (Read h)) read
-    ∙ judged_message a.count a.came a.low a.high a.held.now c.requires (sym c.sized.ensures ∙ c.if-not-sized.false) (sym c.begins.ensures ∙ c.if-not-begins.false)
-    (sym c.wide.ensures ∙ c.if-wide-len.false ∙ sym (less_ten a.count)) (sym c.ends.ensures ∙ c.if-not-ends.false)
+    ∙ judged_message a.count came a.low a.high a.held.now c.requires (sym c.sized.ensures ∙ c.if-not-sized.false) (sym c.begins.ensures ∙ c.if-not-begins.false)
+    (sym c.from.ensures ∙ c.if-from-len.false ∙ sym (less_ten a.count)) (sym c.ends.ensures ∙ c.if-not-ends.false)

@@ -1,11 +1,7 @@
-use Rattle.comlynx.specs.Inside.{Absent}
-use Prim.Native.Nat.{◌+◌, ◌-◌, ◌≤◌}
 use mathlib.Core.Path.{◌≡◌}
 use mathlib.Core.Bool.{true}
+use Rattle.comlynx.specs.Inside.{Clear}
 use Rattle.comlynx.proofs.search.clear.Given as goal
 
-abbrev pub invariant-loop-k : goal.invariant-loop-k
-invariant-loop-k l = (l.k ≤ l.n) × (l.good ≡ true → Absent l.b l.s l.at (l.at + l.k))
-
-abbrev pub decreases-loop-k : goal.decreases-loop-k
-decreases-loop-k l = l.n - l.k
+abbrev pub invariant-loop-x : goal.invariant-loop-x
+invariant-loop-x g l = l.good ≡ true → Clear g.row.A g.row.B l.run 0 l.x-index

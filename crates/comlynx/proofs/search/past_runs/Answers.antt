@@ -1,20 +1,10 @@
-use Rattle.comlynx.proofs.SearchedParts.{absent_none, searched_on}
+use Prim.Native.Nat.{◌+◌}
+use Rattle.comlynx.proofs.SearchedParts.{clear_part, passed_on}
 use native.Mathlib.Omega.{arith}
 use Rattle.comlynx.proofs.search.past_runs.Goals as goal
 
-pub loop-i-init : goal.loop-i-init
-loop-i-init c =
-    let a = c.args in
-    (omega arith, omega arith, absent_none a.b a.s.now a.from)
-
 pub loop-i-preserved : goal.loop-i-preserved
-loop-i-preserved c =
+loop-i-preserved g c =
     let l = c.loop-i in
-    let a = c.args in
-    searched_on a.b a.s.now a.from l.i _ l.invariant (omega arith, omega arith, c.clear.ensures c.if-clear.true)
-
-pub returns-after-loop-i : goal.returns-after-loop-i
-returns-after-loop-i c = c.loop-i.invariant
-
-pub returns-else-clear : goal.returns-else-clear
-returns-else-clear c = c.loop-i.invariant
+    let s = c.args.s.now in
+    passed_on g.row.A g.row.B s c.args.from l.i _ l.invariant (omega arith, omega arith, clear_part g.row.A g.row.B s l.i (l.i + 16) (omega arith) (c.clear.ensures c.if-not-clear.false))

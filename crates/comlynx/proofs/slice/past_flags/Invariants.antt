@@ -1,12 +1,9 @@
-use lib.ListN.{length, drop}
+use lib.ListN.{drop}
 use Rattle.comlynx.specs.Rules.{within}
-use Prim.Native.Nat.{ℕ, ◌+◌, ◌-◌, ◌≤◌}
+use Prim.Native.Nat.{ℕ, ◌+◌, ◌-◌}
 use mathlib.Core.Path.{◌≡◌}
 use mathlib.Core.List.{[]}
 use Rattle.comlynx.proofs.slice.past_flags.Given as goal
 
 abbrev pub invariant-loop-i : goal.invariant-loop-i
-invariant-loop-i l = (l.from ≤ l.i) × (l.i ≤ length l.slice) × ((at : ℕ) → within at [] (drop l.from l.slice) ≡ within (at + (l.i - l.from)) [] (drop l.i l.slice))
-
-abbrev pub decreases-loop-i : goal.decreases-loop-i
-decreases-loop-i l = length l.slice - l.i
+invariant-loop-i l = (at : ℕ) → within at [] (drop l.from l.slice) ≡ within (at + (l.i - l.from)) [] (drop l.i l.slice)

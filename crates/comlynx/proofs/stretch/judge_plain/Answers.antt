@@ -13,10 +13,10 @@ use Rattle.comlynx.proofs.stretch.judge_plain.Goals as goal
 use Rattle.comlynx.proofs.stretch.judge_plain.Goals.{After-judge_closed-answer}
 
 deliverable : (c : After-judge_closed-answer)
-    → (let a = c.args in AnswerDelivers a.stretch.now a.lent.now c.judge_closed-answer.result (some (closed c.came_of.result c.least-count.result a.stretch.now)))
+    → (let a = c.args in AnswerDelivers a.stretch.now a.lent.now c.judge_closed-answer.result (some (closed c.plus.result c.min-count.result a.stretch.now)))
 deliverable c =
     let a = c.args in
-    closed_delivers c.least-count.result c.came_of.result a.stretch.now a.lent.now c.judge_closed-answer.result (omega (arith, c.least-count.ensures)) c.judge_closed-answer.ensures
+    closed_delivers c.min-count.result c.plus.result a.stretch.now a.lent.now c.judge_closed-answer.result (omega (arith, c.min-count.ensures)) c.judge_closed-answer.ensures
 
 pub deliver-requires : goal.deliver-requires
 deliver-requires c =
@@ -26,7 +26,7 @@ deliver-requires c =
 pub returns : goal.returns
 returns c =
     let a = c.args in
-    let is = plain_judged a.stretch.now c.least-count.result c.came_of.result c.requires.0 c.least-count.ensures c.came_of.ensures in (
+    let is = plain_judged a.stretch.now c.min-count.result c.plus.result c.requires.0 c.min-count.ensures (omega (arith, c.plus.ensures)) in (
       c.judge_closed-answer.ensures ∙ ap (λ (e : Event Message). retold header (gives e)) is,
       c.deliver.ensures ∙ (deliverable (goal.at.returns c).After-judge_closed-answer).2 ∙ ap (λ (e : Event Message). delivered (λ (m : Message). m.payload) (gives e) a.lent.now) is,
     )
