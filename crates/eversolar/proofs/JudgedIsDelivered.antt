@@ -1,5 +1,6 @@
 -- What an answer tells by its number, and what a judged frame tells and delivers.
 -- Assumes nothing.
+use Rattle.std.specs.Prelude.{Option as Maybe, None, Some}
 use Prim.Native.Nat.{ℕ, ◌+◌, ◌≤◌}
 use mathlib.Core.Path.{◌≡◌, refl, sym, ap, subst}
 use mathlib.Core.Bool.{Bool, true, false, cond}
@@ -24,8 +25,7 @@ use Rattle.eversolar.specs.Inside.{judged_frame, event_of, Fits, JudgedAs, Small
 use Rattle.eversolar.specs.declared.reader.Header.{Header}
 use Rattle.eversolar.specs.declared.reader.Answer.{Answer}
 use Rattle.eversolar.specs.declared.reader.Answer.TheVariants.{Done, Message as Read, Damaged, Refused}
-use Rattle.eversolar.specs.declared.reader.End.{End}
-use Rattle.eversolar.specs.declared.reader.End.TheVariants.{UsedUp, Closed}
+use Rattle.eversolar.specs.declared.reader.Closed.{Closed}
 
 -- an answer's number is that of what it tells
 pub number_told : (a : Answer) → number a ≡ Event.number (told a)
@@ -93,14 +93,14 @@ frame_hands len last held lent small room = go (eqb (came_sum len last held) (ri
         (d.0, omega (arith, n), d.1)
     go false = (tt, tt, refl)
 
-end_hands : (end : End) (held lent : List ℕ) → Fits end → length held ≡ held_max → Hands held lent (retold header (outcome (event_of end held))) (outcome (event_of end held))
-end_hands UsedUp held lent f l = (tt, tt, refl)
-end_hands (Closed len last) held lent f l = frame_hands len last held lent f (omega arith)
+end_hands : (end : Maybe Closed) (held lent : List ℕ) → Fits end → length held ≡ held_max → Hands held lent (retold header (outcome (event_of end held))) (outcome (event_of end held))
+end_hands None held lent f l = (tt, tt, refl)
+end_hands (Some closed) held lent f l = frame_hands closed.len closed.last held lent f (omega arith)
 
 pub frame_delivers : (len last : ℕ) (held lent : List ℕ) (a : Answer) → len ≤ payload_max → 7 + len ≤ length held → JudgedAs (judged_frame len last held) a
     → Small a × There a held × (given a held lent ≡ delivered (λ (m : Message). m.payload) (outcome (judged_frame len last held)) lent)
 frame_delivers len last held lent a small room e = subst (λ (s : Told Header). Hands held lent s (outcome (judged_frame len last held))) (sym e) (frame_hands len last held lent small room)
 
-pub delivers : (end : End) (held lent : List ℕ) (a : Answer) → Fits end → length held ≡ held_max → JudgedAs (event_of end held) a
+pub delivers : (end : Maybe Closed) (held lent : List ℕ) (a : Answer) → Fits end → length held ≡ held_max → JudgedAs (event_of end held) a
     → Small a × There a held × (given a held lent ≡ delivered (λ (m : Message). m.payload) (outcome (event_of end held)) lent)
 delivers end held lent a f l e = subst (λ (s : Told Header). Hands held lent s (outcome (event_of end held))) (sym e) (end_hands end held lent f l)

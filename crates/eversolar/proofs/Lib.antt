@@ -1,4 +1,5 @@
 pub mod MachineMoves
+pub mod CopiedIn
 pub mod StageRanges
 pub mod JudgedIsDelivered
 pub mod SearchFindsFrame

@@ -59,7 +59,7 @@ looked stage b count len c l = go (eqb stage 1 && eqb b second_mark) (eqb b firs
 
 moves : (m : Move) (s : Reader) (b : ℕ) → 2 ≤ s.stage → Range s.stage s.count s.len → b < 256 → Asked s.stage s.count s.len m → Steady next in_range Named (moved m s b)
 unfolding moved
-moves Keep s b two r g a = (in_range_lem s.stage (s.count + 1) s.len (keeps_range s.stage s.count s.len (s.count + 1) two r (omega arith) (omega (arith, a.0))), tt)
+moves Keep s b two r g a = (in_range_lem s.stage (s.count + 1) s.len (keeps_range s.stage s.count s.len (s.count + 1) two r (omega arith) (omega (arith, a))), tt)
 moves Size s b two r g a = (in_range_lem 3 7 b (body refl (omega arith) (omega arith) (omega arith)), tt)
 moves Close s b two r g a = (in_range_lem 0 0 0 (look (omega arith) refl refl), judged_cased (take 6 s.held) s.len (take s.len (drop 7 s.held)) (word (get_or s.held (7 + s.len) 0) b))
 

@@ -1,14 +1,16 @@
 -- A search over a slice comes to the frame that the rule finds, and what lies there answers the ask.
 -- Assumes nothing.
+use Rattle.std.specs.Prelude.{Option as Maybe}
+use Rattle.std.specs.Bool.{then_some}
 use Prim.Native.Nat.{ℕ, suc, ◌+◌, ◌-◌, ◌≤◌, ◌<◌}
-use mathlib.Core.Path.{◌≡◌, refl, sym, ap, ◌∙◌}
+use mathlib.Core.Path.{◌≡◌, refl, sym, ap, ◌∙◌, subst}
 use mathlib.Core.Bool.{Bool, true, false, cond, ◌&&◌}
 use mathlib.Core.Option.{none, some}
 use mathlib.Core.List.{List, [], ◌∷◌}
-use lib.ListN.{length, take, drop, get_or, length-drop, drop_of_length-le}
+use lib.ListN.{length, take, drop, get_or, length-drop}
 use lib.Seq.{drop-cons, drop-drop, get_or-drop, take_all}
 use lib.Dec.{eqb}
-use borrow.Author.Tests.{le-ltb, lt-ltb}
+use borrow.Author.Tests.{le-ltb, lt-ltb, leb-true, leb-false}
 use native.Mathlib.Numerals.{add-one}
 use native.Mathlib.Nat.{le_refl}
 use native.Mathlib.Omega.{arith}
@@ -22,10 +24,9 @@ use Rattle.eversolar.specs.Wire.{Message, first_mark, second_mark}
 use Rattle.eversolar.specs.Rules.{judged, frame, sought, rule}
 use Rattle.eversolar.specs.Reader.{number, told, header}
 use Rattle.eversolar.specs.Slice.{known_at, shown, IsAnswerAt}
-use Rattle.eversolar.specs.Inside.{Marked, JudgedAt}
+use Rattle.eversolar.specs.Inside.{Marked, FrameFrom, whole_at, JudgedAt}
 use Rattle.eversolar.specs.declared.reader.Header.{Header}
 use Rattle.eversolar.specs.declared.reader.Answer.{Answer}
-use Rattle.eversolar.specs.declared.reader.Answer.TheVariants.{Done}
 use Rattle.eversolar.proofs.JudgedIsDelivered.{number_told}
 
 -- ---- one turn of the search
@@ -47,14 +48,10 @@ meets s i at lt e =
     let two : suc i + 1 ≡ i + 2 = omega arith in
     rw (drop-cons s i 0 lt, second s i, e) (ap (frame (at + 2)) (drop-drop 1 (suc i) s ∙ ap (λ (k : ℕ). drop k s) two))
 
--- behind the end there is no frame, and in one byte no AA 55
-none_behind : (at : ℕ) (s : List ℕ) → frame at (drop (length s + 2) s) ≡ none
-unfolding frame
-none_behind at s = rw (drop_of_length-le s {i = length s + 2} (omega arith))
-
-pub ends : (s : List ℕ) (i at behind : ℕ) → length s ≤ i + 1 → sought at (drop i s) ≡ frame behind (drop (length s + 2) s)
+-- in one byte there is no AA 55
+pub ends : (s : List ℕ) (i at : ℕ) → length s ≤ i + 1 → sought at (drop i s) ≡ none
 unfolding sought
-ends s i at behind le = go (drop i s) (omega (arith, length-drop i s)) ∙ sym (none_behind behind s)
+ends s i at le = go (drop i s) (omega (arith, length-drop i s))
   where
     go : (bs : List ℕ) → length bs ≤ 1 → sought at bs ≡ none
     go [] h = refl
@@ -90,6 +87,10 @@ module _ (s : List ℕ) (mark : ℕ) where
   pub body_length : length body ≡ length s - (mark + 2)
   body_length = ap length is_rest ∙ length-drop (mark + 2) s
 
+  -- where the slice ends before the frame does, no frame is found
+  pub cut_off : (place : ℕ) → Marked s place mark → length s - mark < 11 + len → sought 0 (drop place s) ≡ none
+  cut_off place m lt = m.finds ∙ frame_short (mark - place + 2) len (drop (mark + 2) s) (get_or-drop (mark + 2) s 6 0) (omega (arith, lt, length-drop (mark + 2) s))
+
   tells_len : get_or body 6 0 ≡ len
   tells_len = ap (λ (l : List ℕ). get_or l 6 0) is_rest ∙ get_or-drop (mark + 2) s 6 0
 
@@ -97,12 +98,7 @@ module _ (s : List ℕ) (mark : ℕ) where
     finds : rule tt (drop place s) ≡ frame (mark - place + 2) body
     finds = m.finds ∙ ap (frame (mark - place + 2)) (sym is_rest)
 
-    -- the two ends of an ask: the slice ends before the frame does; or what is judged is told, with the place after the frame
-    pub cut_off : length s - mark < 11 + len → IsAnswerAt s place lent (record { answer = Done; place = length s }) lent
-    cut_off lt =
-        answers_rule rule known_at header (λ v. v.payload) shown s lent lent place (record { answer = Done; place = length s }) none fits inside room
-        (finds ∙ frame_short (mark - place + 2) len body tells_len (omega (arith, lt, body_length))) refl refl
-
+    -- what is judged is told, with the place after the frame
     pub judged_there : (a : Answer) (later : List ℕ) → 11 + len ≤ length s - mark → JudgedAt len body lent a later → IsAnswerAt s place lent (record { answer = a; place = mark + 11 + len }) later
     judged_there a later whole j =
         let found : Event Message = judged (take 6 body) len (take len (drop 7 body)) (word (get_or body (7 + len) 0) (get_or body (8 + len) 0)) in
@@ -113,3 +109,9 @@ module _ (s : List ℕ) (mark : ℕ) where
         (ap {B = Asked Header} (λ (v : Seen (Unit {0}) Header). record { number = v.number; told = v.told; place = v.used }) (shows header tt (number a) (told a) (gives found) (mark + 11 + len) (number_told a) j.tells)
         ∙ ap (λ (k : ℕ). retells header (asked_of (gives found) k)) after)
         j.leaves
+
+-- ---- the first frame, where all of it is there
+
+pub frame_there : (s : List ℕ) (i j : ℕ) (t : Bool) (o : Maybe ℕ) → Marked s i j → t ≡ whole_at s j → o ≡ then_some t j → FrameFrom s i o
+frame_there s i j true o m e is = subst (FrameFrom s i) (sym is) (m, leb-true (11 + len s j) (length s - j) (sym e))
+frame_there s i j false o m e is = subst (FrameFrom s i) (sym is) (cut_off s j i m (leb-false (11 + len s j) (length s - j) (sym e)))

@@ -64,11 +64,6 @@ pub most_body : (len : ℕ) → most 3 len ≡ 8 + len
 unfolding most
 most_body len = refl
 
-pub most_small : (stage count len : ℕ) → 2 ≤ stage → Range stage count len → most stage len ≤ held_max
-most_small stage count len s (look p q r) = absurd (omega arith)
-most_small stage count len s (lead p q r) = let limit = ap (λ (k : ℕ). most k len) p ∙ most_lead len in omega arith
-most_small stage count len s (body p q r t) = let limit = ap (λ (k : ℕ). most k len) p ∙ most_body len in omega arith
-
 -- more bytes kept
 pub keeps_range : (stage count len n : ℕ) → 2 ≤ stage → Range stage count len → count ≤ n → n ≤ most stage len → Range stage n len
 unfolding most
@@ -77,7 +72,7 @@ keeps_range stage count len n s (lead p q r) le room = lead p (rw p at room) r
 keeps_range stage count len n s (body p q r t) le room = body p q (omega arith) (rw p at room)
 
 abbrev pub Asked : ℕ → ℕ → ℕ → Move → Type 0
-Asked stage count len Keep = (count < most stage len) × (count < held_max)
+Asked stage count len Keep = count < most stage len
 Asked stage count len Size = (stage ≡ 2) × (count ≡ 6) × (len ≡ 0)
 Asked stage count len Close = (stage ≡ 3) × (count ≡ 8 + len)
 
@@ -90,7 +85,7 @@ asked stage count len s (lead p q r) = rw (eq-eqb stage 2 p) (go (ltb count (mos
     limit = ap (λ (k : ℕ). most k len) p ∙ most_lead len
 
     go : (t : Bool) → ltb count (most stage len) ≡ t → Asked stage count len (cond t Keep Size)
-    go true e = (ltb-true count (most stage len) e, omega arith)
+    go true e = ltb-true count (most stage len) e
     go false e = (p, omega (arith, limit, ltb-false count (most stage len) e), r)
 asked stage count len s (body p q r t) = rw (ne_eqb stage 2 (λ e. omega arith)) (go (ltb count (most stage len)) refl)
   where
@@ -98,5 +93,5 @@ asked stage count len s (body p q r t) = rw (ne_eqb stage 2 (λ e. omega arith))
     limit = ap (λ (k : ℕ). most k len) p ∙ most_body len
 
     go : (u : Bool) → ltb count (most stage len) ≡ u → Asked stage count len (cond u Keep Close)
-    go true e = (ltb-true count (most stage len) e, omega (arith, limit, ltb-true count (most stage len) e))
+    go true e = ltb-true count (most stage len) e
     go false e = (p, omega (arith, limit, ltb-false count (most stage len) e))

@@ -1,5 +1,6 @@
 -- What the writer's stores make of the lent buffer: a frame, and then what was there.
 -- Assumes nothing.
+use Rattle.std.specs.Prelude.{Ok, Err}
 use Prim.Native.Nat.{ℕ, ◌+◌, ◌-◌, ◌≤◌, ◌<◌}
 use mathlib.Core.Path.{◌≡◌, sym, ap, ◌∙◌, subst}
 use mathlib.Core.Bool.{false}
@@ -10,7 +11,6 @@ use borrow.Author.Tests.{lt-ltb, le-ltb}
 use native.Mathlib.Numerals.{add-one}
 use native.Mathlib.Omega.{arith}
 use Rattle.answers.specs.Written.{Writes}
-use Rattle.answers.specs.declared.Written.TheVariants.{Done, Refused}
 use Rattle.answers.specs.declared.Refusal.TheVariants.{TooLong, NoRoom}
 use Rattle.answers.proofs.WriterPromise.{writes_too_long, writes_no_room, writes_done}
 use Rattle.stream.proofs.ListLaws.{sets_append, sets_front}
@@ -27,18 +27,18 @@ module _ (m : Message) (lent : List ℕ) where
   n = length m.payload
 
   -- the three ends of the writer
-  pub too_long : payload_max < n → WritesMessage m lent (Refused TooLong) lent
+  pub too_long : payload_max < n → WritesMessage m lent (Err TooLong) lent
   too_long h = rw (lt-ltb payload_max n h) (writes_too_long (wire m) lent)
 
-  pub no_room : n ≤ payload_max → length lent < 9 + n + 2 → WritesMessage m lent (Refused NoRoom) lent
+  pub no_room : n ≤ payload_max → length lent < 9 + n + 2 → WritesMessage m lent (Err NoRoom) lent
   no_room h r = rw (le-ltb payload_max n h) (writes_no_room (wire m) lent (omega (arith, wire_length m)))
 
   pub done : (count : ℕ) (later : List ℕ) → n ≤ payload_max → count ≡ 9 + n + 2 → 9 + n + 2 ≤ length lent → later ≡ wire m ++ drop (length (wire m)) lent
-      → WritesMessage m lent (Done count) later
+      → WritesMessage m lent (Ok count) later
   done count later h is r e =
       rw (le-ltb payload_max n h)
-      (subst (λ (l : List ℕ). Writes false (wire m) lent (Done count) l) (sym e)
-      (subst (λ (k : ℕ). Writes false (wire m) lent (Done k) (wire m ++ drop (length (wire m)) lent)) (wire_length m ∙ sym is)
+      (subst (λ (l : List ℕ). Writes false (wire m) lent (Ok count) l) (sym e)
+      (subst (λ (k : ℕ). Writes false (wire m) lent (Ok k) (wire m ++ drop (length (wire m)) lent)) (wire_length m ∙ sym is)
       (writes_done (wire m) lent (omega (arith, wire_length m)))))
 
   -- all before the data, and the data, in front of the rest

@@ -1,7 +1,7 @@
 -- What the writer promises.
 use Rattle.std.specs.Prelude.{ℕ, List, length, ltb}
 use Rattle.answers.specs.Written.{Writes}
-use Rattle.answers.specs.declared.Written.{Written}
+use Rattle.answers.specs.Written.{Written}
 use Rattle.eversolar.specs.Wire.{Message, payload_max, wire}
 
 -- 8, then 9, then the bytes of the message's frame

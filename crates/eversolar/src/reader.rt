@@ -16,7 +16,6 @@ ghost use Rattle.eversolar.specs.Inside.{Hunted, Filled, Fits, Runs, event_of, j
 
 use answers::{Damage, Refusal};
 use eversolar_words::word;
-use numbers::least;
 
 // The two bytes that open a frame.
 pub(crate) const FIRST_MARK: u8 = 0xAA;
@@ -100,6 +99,7 @@ pub struct StepInPlace {
 }
 
 // The four stages: looking for AA; for 55, where AA was the byte before; before the length is known; after.
+// They are numbers and no enum, since `IsStepInPlace` has a stage that none of them is handed back as spoilt.
 const LOOKING: u8 = 0;
 
 const MARK_SEEN: u8 = 1;
@@ -109,34 +109,20 @@ const IN_LEAD: u8 = 2;
 const IN_BODY: u8 = 3;
 
 // Whether stage, count and length are in the stage's range.
+#[tactic(auto, using(std::proofs::lemmas::Bool::Decides::nat_tests), unfolding(crate::specs::Machine::in_range))]
 fn in_range(stage: u8, count: usize, len: usize) -> bool
     ensures { result ≡ in_range stage count len }
 {
-    if stage < IN_LEAD {
-        if count != 0 {
-            return false;
-        }
-        return len == 0;
+    match stage {
+        LOOKING | MARK_SEEN => count == 0 && len == 0,
+        IN_LEAD => count <= LENGTH_AT && len == 0,
+        IN_BODY => len <= PAYLOAD && PAYLOAD_AT <= count && count <= PAYLOAD_AT + 1 + len,
+        _ => false,
     }
-    if stage == IN_LEAD {
-        if LENGTH_AT < count {
-            return false;
-        }
-        return len == 0;
-    }
-    if stage != IN_BODY {
-        return false;
-    }
-    if PAYLOAD < len {
-        return false;
-    }
-    if count < PAYLOAD_AT {
-        return false;
-    }
-    count <= PAYLOAD_AT + 1 + len
 }
 
 // How many bytes since AA 55 are kept before the one that tells the length, or the last.
+#[tactic(auto, using(std::proofs::lemmas::Bool::Decides::nat_tests), unfolding(crate::specs::Machine::most))]
 fn most_of(stage: u8, len: usize) -> usize
     requires { len ≤ payload_max }
     ensures { (result ≡ most stage len) × (result ≤ held_max) }
@@ -160,6 +146,7 @@ enum Move {
 }
 
 // Says what a byte since AA 55 asks in a stage. No other function decides what it means.
+#[tactic(auto, using(std::proofs::lemmas::Bool::Decides::nat_tests), unfolding(crate::specs::Machine::advance_of))]
 fn advance(stage: u8, count: usize, len: usize) -> Move
     requires { len ≤ payload_max }
     ensures { result ≡ advance_of stage count len }
@@ -173,15 +160,10 @@ fn advance(stage: u8, count: usize, len: usize) -> Move
     Move::Close
 }
 
-// Where a hunt for AA 55 ends: at the index after the 55, or at the end of the piece, in a stage of looking.
-#[derive(Clone, Copy)]
-enum HuntEnd {
-    Found(usize),
-    End(u8),
-}
-
-// Looks for AA directly followed by 55 from `from` on. An AA that comes where 55 is looked for may itself open a header.
-fn hunt(stage: u8, piece: &[u8], from: usize) -> HuntEnd
+// Looks for AA directly followed by 55 from `from` on, and gives the index after the 55; or, where the piece ends before, the stage of looking in
+// which it ends. An AA that comes where 55 is looked for may itself open a header.
+// It stays a loop left by `break` with what it found: "Forms that the paper names" in docs/DECISIONS.md names this form for the hunt.
+fn hunt(stage: u8, piece: &[u8], from: usize) -> Result<usize, u8>
     requires { (from ≤ length piece.now) × (stage < 2) }
     ensures { Hunted stage piece.now from result }
 {
@@ -189,12 +171,12 @@ fn hunt(stage: u8, piece: &[u8], from: usize) -> HuntEnd
     let mut i = from;
     let found = loop {
         if piece.len() <= i {
-            break HuntEnd::End(stage);
+            break Err(stage);
         }
         let b = piece[i];
         i += 1;
         if (stage == MARK_SEEN) & (b == SECOND_MARK) {
-            break HuntEnd::Found(i);
+            break Ok(i);
         }
         if b == FIRST_MARK {
             stage = MARK_SEEN;
@@ -205,44 +187,48 @@ fn hunt(stage: u8, piece: &[u8], from: usize) -> HuntEnd
     found
 }
 
-// How a run over a piece ended.
+// The end of a frame: so many data bytes are held, and this is the last byte of its checksum.
 #[derive(Clone, Copy)]
-enum End {
-    UsedUp,
-    // a frame of so many data bytes is held, and this is the last byte of its checksum
-    Closed { len: usize, last: u8 },
+struct Closed {
+    len: usize,
+    last: u8,
 }
 
-// What a run hands back beside the held bytes.
+// What a run hands back beside the held bytes. Stage, count and length stand apart here and in calls, as they do in `Reader` and `StepInPlace`:
+// a struct of the three would be taken apart and put together at each edge.
 #[derive(Clone, Copy)]
 struct Ran {
     stage: u8,
     count: usize,
     len: usize,
     used: usize,
-    end: End,
+    // none where the piece is used up
+    end: Option<Closed>,
 }
 
 // Takes in bytes from `from` on, whatever they are: as many as are kept and the piece has. Gives the index after the last.
-fn fill(stage: u8, count: usize, len: usize, held: &mut [u8], piece: &[u8], from: usize) -> usize
-    requires { (2 ≤ stage) × (len ≤ payload_max) × (count ≤ most stage len) × (from ≤ length piece.now) × (length held.old ≡ held_max) }
+fn fill(
+    stage: u8,
+    count: usize,
+    len: usize,
+    held: &mut [u8; HELD],
+    piece: &[u8],
+    from: usize,
+) -> usize
+    requires { (2 ≤ stage) × (len ≤ payload_max) × (count < most stage len) × (from < length piece.now) }
     ensures { Filled stage count len held.old piece.now from result held.new }
 {
-    let stop = from + least(piece.len() - from, most_of(stage, len) - count);
-    let mut at = count;
-    let mut i = from;
-    while i < stop {
-        held[at] = piece[i];
-        at += 1;
-        i += 1;
-    }
-    i
+    let n = (piece.len() - from).min(most_of(stage, len) - count);
+    let end = from + n;
+    held[count..count + n].copy_from_slice(&piece[from..end]);
+    end
 }
 
 // The piece up to the end of a frame or the end of the piece.
 // It is long because each move has its arm here: a call from an arm would have to lend the whole state.
-fn run_in(stage: u8, count: usize, len: usize, held: &mut [u8], piece: &[u8]) -> Ran
-    requires { (in_range stage count len ≡ true) × (length held.old ≡ held_max) }
+// It stays a `while`, since a turn uses one byte or many, as its arm says: a `for` would go by single bytes.
+fn run_in(stage: u8, count: usize, len: usize, held: &mut [u8; HELD], piece: &[u8]) -> Ran
+    requires { in_range stage count len ≡ true }
     ensures { Runs stage count len held.old piece.now result held.new }
 {
     let mut stage = stage;
@@ -251,70 +237,63 @@ fn run_in(stage: u8, count: usize, len: usize, held: &mut [u8], piece: &[u8]) ->
     let mut i: usize = 0;
     while i < piece.len() {
         if stage < IN_LEAD {
-            let found = hunt(stage, piece, i);
-            match found {
-                HuntEnd::Found(j) => {
+            match hunt(stage, piece, i) {
+                Ok(found) => {
                     stage = IN_LEAD;
-                    i = j;
+                    i = found;
                 }
-                HuntEnd::End(s) => {
-                    stage = s;
+                Err(looking) => {
+                    stage = looking;
                     i = piece.len();
                 }
             }
         } else {
-            let b = piece[i];
-            let m = advance(stage, count, len);
-            i += 1;
-            match m {
+            match advance(stage, count, len) {
                 Move::Keep => {
-                    held[count] = b;
-                    let next = count + 1;
-                    let j = fill(stage, next, len, held, piece, i);
-                    count = next + (j - i);
-                    i = j;
+                    let kept = fill(stage, count, len, held, piece, i);
+                    count += kept - i;
+                    i = kept;
                 }
                 Move::Size => {
+                    let b = piece[i];
                     held[LENGTH_AT] = b;
                     stage = IN_BODY;
                     count = PAYLOAD_AT;
-                    len = b as usize;
+                    len = usize::from(b);
+                    i += 1;
                 }
                 Move::Close => {
-                    let end = End::Closed { len, last: b };
+                    let last = piece[i];
                     return Ran {
                         stage: LOOKING,
                         count: 0,
                         len: 0,
-                        used: i,
-                        end,
+                        used: i + 1,
+                        end: Some(Closed { len, last }),
                     };
                 }
             }
         }
     }
-    let end = End::UsedUp;
     Ran {
         stage,
         count,
         len,
         used: i,
-        end,
+        end: None,
     }
 }
 
-// The `n` bytes of `s` from `from` on added up. 255 bytes come to less than 65,536, and in 16 bits eight are added at once.
-fn total_of(s: &[u8], from: usize, n: usize) -> usize
-    requires { (from + n ≤ length s.now) × (n ≤ payload_max) × (from ≤ payload_max) }
-    ensures { (result ≡ total (take n (drop from s.now))) × (result ≤ 256 * n) }
+// The bytes of `s` added up. 255 bytes come to less than 65,536, and in 16 bits eight are added at once.
+fn total_of(s: &[u8]) -> usize
+    requires { length s.now ≤ payload_max }
+    ensures { (result ≡ total s.now) × (result ≤ 255 * length s.now) }
 {
     let mut sum: u16 = 0;
-    let mut i: usize = 0;
-    while i < n {
-        sum += s[from + i] as u16;
-        i += 1;
+    for b in s {
+        sum += u16::from(*b);
     }
-    sum as usize
+    usize::from(sum)
 }
 
 // The checksum of a frame by its length and the bytes since AA 55 at the front of `s`. The length is not looked up in `s`, where a reader may have left anything.
@@ -322,8 +301,9 @@ pub(crate) fn checksum_of(len: usize, s: &[u8]) -> u16
     requires { (7 + len ≤ length s.now) × (len ≤ payload_max) }
     ensures { result ≡ checksum (earlier_of (take 6 s.now) len (take len (drop 7 s.now))) }
 {
-    let marks = FIRST_MARK as usize + SECOND_MARK as usize;
-    let sum = marks + len + total_of(s, 0, LENGTH_AT) + total_of(s, PAYLOAD_AT, len);
+    let marks = usize::from(FIRST_MARK) + usize::from(SECOND_MARK);
+    let end = PAYLOAD_AT + len;
+    let sum = marks + len + total_of(&s[..LENGTH_AT]) + total_of(&s[PAYLOAD_AT..end]);
     (sum % 65536) as u16
 }
 
@@ -354,13 +334,13 @@ pub(crate) fn judge_frame(len: usize, last: u8, held: &[u8]) -> Answer
 }
 
 // What the end of a run comes to.
-fn judge(end: End, held: &[u8]) -> Answer
-    requires { Fits end × (length held.now ≡ held_max) }
+fn judge(end: Option<Closed>, held: &[u8; HELD]) -> Answer
+    requires { Fits end }
     ensures { JudgedAs (event_of end held.now) result }
 {
     match end {
-        End::UsedUp => Answer::Done,
-        End::Closed { len, last } => judge_frame(len, last, held),
+        None => Answer::Done,
+        Some(Closed { len, last }) => judge_frame(len, last, held),
     }
 }
 
@@ -369,15 +349,9 @@ pub(crate) fn deliver(answer: Answer, held: &[u8], lent: &mut [u8])
     requires { Small answer × There answer held.now × (lent_least ≤ length lent.old) }
     ensures { lent.new ≡ given answer held.now lent.old }
 {
-    match answer {
-        Answer::Message(h) => {
-            let n = h.len;
-            let end = PAYLOAD_AT + n;
-            lent[..n].copy_from_slice(&held[PAYLOAD_AT..end]);
-        }
-        Answer::Done => {}
-        Answer::Damaged { what: _, lost: _ } => {}
-        Answer::Refused(_) => {}
+    if let Answer::Message(h) = answer {
+        let end = PAYLOAD_AT + h.len;
+        lent[..h.len].copy_from_slice(&held[PAYLOAD_AT..end]);
     }
 }
 
@@ -393,30 +367,24 @@ pub fn step_in_place(
 ) -> StepInPlace
     ensures { IsStepInPlace stage count len held.old piece.now lent.old result held.new lent.new }
 {
-    let whole = (held.len() == HELD) & in_range(stage, count, len);
-    if !whole {
-        let answer = Answer::Refused(Refusal::Spoilt);
-        return StepInPlace {
-            stage,
-            count,
-            len,
-            answer,
-            used: 0,
-        };
+    let refused = |why: Refusal| StepInPlace {
+        stage,
+        count,
+        len,
+        answer: Answer::Refused(why),
+        used: 0,
+    };
+    let Some(held) = held.as_mut_array::<HELD>() else {
+        return refused(Refusal::Spoilt);
+    };
+    if !in_range(stage, count, len) {
+        return refused(Refusal::Spoilt);
     }
     if lent.len() < Reader::LENT {
-        let answer = Answer::Refused(Refusal::NoRoom);
-        return StepInPlace {
-            stage,
-            count,
-            len,
-            answer,
-            used: 0,
-        };
+        return refused(Refusal::NoRoom);
     }
     let ran = run_in(stage, count, len, held, piece);
-    let end = ran.end;
-    let answer = judge(end, &*held);
+    let answer = judge(ran.end, &*held);
     deliver(answer, &*held, lent);
     StepInPlace {
         stage: ran.stage,

@@ -7,7 +7,7 @@ ghost use Rattle.stream.specs.Call.{lent_least};
 ghost use Rattle.stream.specs.Slice.{slice_most};
 ghost use Rattle.eversolar.specs.Wire.{payload_max};
 ghost use Rattle.eversolar.specs.Slice.{IsAnswerAt};
-ghost use Rattle.eversolar.specs.Inside.{Marked, whole_at, JudgedAt};
+ghost use Rattle.eversolar.specs.Inside.{MarkFrom, FrameFrom, whole_at, JudgedAt};
 
 use crate::reader::{
     Answer, FIRST_MARK, HEADER, LENGTH_AT, MARKS, PAYLOAD_AT, Reader, SECOND_MARK, SUM, deliver,
@@ -28,20 +28,21 @@ pub struct Found {
 // A frame but for its data.
 const LEAST: usize = HEADER + SUM;
 
-// The place of the first AA directly followed by 55 from `from` on, or the end of the slice. The byte after an AA is looked at where it stands, so
-// that no AA need be remembered.
-fn mark_from(slice: &[u8], from: usize) -> usize
+// The place of the first AA directly followed by 55 from `from` on, if there is one. The byte after an AA is looked at where it stands, so that no AA
+// need be remembered.
+fn mark_from(slice: &[u8], from: usize) -> Option<usize>
     requires { from ≤ length slice.now }
-    ensures { Marked slice.now from result }
+    ensures { MarkFrom slice.now from result }
 {
+    // a `for` over the range takes 7.0 instructions a byte where no AA is, the `while` 5.0, and C times 1.1 is the bar
     let mut i = from;
     while i + 1 < slice.len() {
         if slice[i] == FIRST_MARK && slice[i + 1] == SECOND_MARK {
-            return i;
+            return Some(i);
         }
         i += 1;
     }
-    slice.len()
+    None
 }
 
 // Whether all of the frame is there whose AA 55 stands at `mark`.
@@ -53,8 +54,17 @@ fn is_whole(slice: &[u8], mark: usize) -> bool
     if left < LEAST {
         return false;
     }
-    let len = slice[mark + MARKS + LENGTH_AT] as usize;
+    let len = usize::from(slice[mark + MARKS + LENGTH_AT]);
     LEAST + len <= left
+}
+
+// The place of the first AA 55 from `from` on, if there is one and all of its frame is there.
+fn frame_from(slice: &[u8], from: usize) -> Option<usize>
+    requires { from ≤ length slice.now }
+    ensures { FrameFrom slice.now from result }
+{
+    let mark = mark_from(slice, from)?;
+    is_whole(slice, mark).then_some(mark)
 }
 
 // Judges and delivers a frame by its length and the bytes behind its AA 55, at the front of `body`.
@@ -72,16 +82,14 @@ fn answer_from(slice: &[u8], place: usize, lent: &mut [u8]) -> Found
     requires { (length slice.now ≤ slice_most) × (place ≤ length slice.now) × (lent_least ≤ length lent.old) }
     ensures { IsAnswerAt slice.now place lent.old result lent.new }
 {
-    let mark = mark_from(slice, place);
-    if !is_whole(slice, mark) {
-        let answer = Answer::Done;
+    let Some(mark) = frame_from(slice, place) else {
         return Found {
-            answer,
+            answer: Answer::Done,
             place: slice.len(),
         };
-    }
+    };
     let body = mark + MARKS;
-    let len = slice[body + LENGTH_AT] as usize;
+    let len = usize::from(slice[body + LENGTH_AT]);
     let end = mark + LEAST + len;
     let answer = judge_at(len, &slice[body..], lent);
     Found { answer, place: end }
@@ -93,16 +101,22 @@ pub fn answer_at(slice: &[u8], place: usize, lent: &mut [u8]) -> Found
     ensures { IsAnswerAt slice.now place lent.old result lent.new }
 {
     if SLICE < slice.len() {
-        let answer = Answer::Refused(Refusal::SliceTooLong);
-        return Found { answer, place: 0 };
+        return Found {
+            answer: Answer::Refused(Refusal::SliceTooLong),
+            place: 0,
+        };
     }
     if slice.len() < place {
-        let answer = Answer::Refused(Refusal::PlacePastEnd);
-        return Found { answer, place: 0 };
+        return Found {
+            answer: Answer::Refused(Refusal::PlacePastEnd),
+            place: 0,
+        };
     }
     if lent.len() < Reader::LENT {
-        let answer = Answer::Refused(Refusal::NoRoom);
-        return Found { answer, place: 0 };
+        return Found {
+            answer: Answer::Refused(Refusal::NoRoom),
+            place: 0,
+        };
     }
     answer_from(slice, place, lent)
 }

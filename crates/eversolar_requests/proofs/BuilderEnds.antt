@@ -1,5 +1,6 @@
 -- The ends of the request builders, and what their promises give.
 -- Assumes nothing.
+use Rattle.std.specs.Prelude.{Ok, Err}
 use Prim.Native.Nat.{ℕ, ◌≤◌}
 use mathlib.Core.Path.{◌≡◌, refl, ap, ap₂, ◌∙◌, subst}
 use mathlib.Core.Bool.{Bool, true, false}
@@ -7,12 +8,11 @@ use mathlib.Core.Option.{Option, none, some}
 use mathlib.Core.List.{List, [], ◌∷◌, ◌++◌}
 use lib.ListN.{length, take, drop, set, replicate, length-append}
 use lib.Seq.{take-length, set_at}
-use borrow.Author.Tests.{le-ltb, eq-eqb, ne_eqb}
+use borrow.Author.Tests.{le-ltb, eq-eqb}
 use native.Mathlib.Omega.{arith}
 use Rattle.numbers.proofs.Alike.{zero_is_one}
 use Rattle.answers.specs.Written.{length_of, Writes}
-use Rattle.answers.specs.declared.Written.{Written}
-use Rattle.answers.specs.declared.Written.TheVariants.{Done, Refused}
+use Rattle.answers.specs.Written.{Written}
 use Rattle.answers.proofs.WriterPromise.{writes_nothing}
 use Rattle.answers.specs.declared.Refusal.TheVariants.{WrongAddressOrExponentTooLow, NotForThisCall}
 use Rattle.eversolar.specs.Wire.{Message, payload_max, wire}
@@ -28,11 +28,11 @@ use Rattle.eversolar_requests.specs.declared.ToOne.TheVariants.{Remove, Normal, 
 
 -- ---- the three ends of a builder, by its tests
 
-refused_16 : (address serial : Bool) (m : Message) (lent : List ℕ) → address ≡ false → Requests address serial m lent (Refused WrongAddressOrExponentTooLow) lent
+refused_16 : (address serial : Bool) (m : Message) (lent : List ℕ) → address ≡ false → Requests address serial m lent (Err WrongAddressOrExponentTooLow) lent
 unfolding requesting
 refused_16 address serial m lent a = rw a (refl, refl)
 
-refused_17 : (address serial : Bool) (m : Message) (lent : List ℕ) → address ≡ true → serial ≡ false → Requests address serial m lent (Refused NotForThisCall) lent
+refused_17 : (address serial : Bool) (m : Message) (lent : List ℕ) → address ≡ true → serial ≡ false → Requests address serial m lent (Err NotForThisCall) lent
 unfolding requesting
 refused_17 address serial m lent a s = rw (a, s) (refl, refl)
 
@@ -64,7 +64,7 @@ asks_all what code lent later w e h = requested true true (ask_all what) lent la
 
 -- ---- a request to one address
 
-named_one : (what : ToOne) (address : ℕ) (code : Code) → IsCode (ask_one what address) code → request address code.control code.function [] ≡ ask_one what address
+named_one : (what : ToOne) (address : ℕ) (code : Code) → IsCode (ask_one what 0) code → request address code.control code.function [] ≡ ask_one what address
 named_one Remove address code e = coded address code _ _ e
 named_one Normal address code e = coded address code _ _ e
 named_one Identity address code e = coded address code _ _ e
@@ -78,10 +78,10 @@ fits_one Identity address = omega arith
 fits_one Settings address = omega arith
 fits_one FixedSize address = omega arith
 
-pub asks_one_16 : (what : ToOne) (address : ℕ) (lent : List ℕ) → is_address address ≡ false → IsAskOne what address lent (Refused WrongAddressOrExponentTooLow) lent
+pub asks_one_16 : (what : ToOne) (address : ℕ) (lent : List ℕ) → is_address address ≡ false → IsAskOne what address lent (Err WrongAddressOrExponentTooLow) lent
 asks_one_16 what address lent a = refused_16 (is_address address) true (ask_one what address) lent a
 
-pub asks_one : (what : ToOne) (address : ℕ) (code : Code) (lent later : List ℕ) (w : Written) → is_address address ≡ true → IsCode (ask_one what address) code
+pub asks_one : (what : ToOne) (address : ℕ) (code : Code) (lent later : List ℕ) (w : Written) → is_address address ≡ true → IsCode (ask_one what 0) code
     → WritesMessage (request address code.control code.function []) lent w later → IsAskOne what address lent w later
 asks_one what address code lent later w a e h =
     requested (is_address address) true (ask_one what address) lent later w a refl (fits_one what address) (subst (λ (m : Message). WritesMessage m lent w later) (named_one what address code e) h)
@@ -89,11 +89,11 @@ asks_one what address code lent later w a e h =
 -- ---- the request that gives an address
 
 module _ (serial : List ℕ) (address : ℕ) (lent : List ℕ) where
-  pub gives_16 : is_address address ≡ false → IsGiveAddress serial address lent (Refused WrongAddressOrExponentTooLow) lent
+  pub gives_16 : is_address address ≡ false → IsGiveAddress serial address lent (Err WrongAddressOrExponentTooLow) lent
   gives_16 a = refused_16 (is_address address) (is_serial serial) (give_address serial address) lent a
 
-  pub gives_17 : is_address address ≡ true → (length serial ≡ 16 → ⊥) → IsGiveAddress serial address lent (Refused NotForThisCall) lent
-  gives_17 a n = refused_17 (is_address address) (is_serial serial) (give_address serial address) lent a (ne_eqb (length serial) 16 n)
+  pub gives_17 : is_address address ≡ true → is_serial serial ≡ false → IsGiveAddress serial address lent (Err NotForThisCall) lent
+  gives_17 a n = refused_17 (is_address address) (is_serial serial) (give_address serial address) lent a n
 
   -- the data are the serial copied into 17 bytes, and the address behind it
   put : (d : List ℕ) → length serial ≡ 16 → d ≡ take (length serial) serial ++ drop (length serial) (replicate 17 0) → set d 16 address ≡ serial ++ (address ∷ [])
@@ -120,13 +120,13 @@ pub record Wrote (address serial : Bool) (m : Message) (lent : List ℕ) (w : Wr
 
 pub wrote : (address serial : Bool) (m : Message) (lent later : List ℕ) (w : Written) (n : ℕ) → Requests address serial m lent w later → length_of w ≡ some n → Wrote address serial m lent w later
 unfolding requesting
-wrote address serial m lent later (Refused why) n h e = none_some e
-wrote true true m lent later (Done k) n h e = record { addressed = refl; numbered = refl; written = h }
-wrote true false m lent later (Done k) n h e =
+wrote address serial m lent later (Err why) n h e = none_some e
+wrote true true m lent later (Ok k) n h e = record { addressed = refl; numbered = refl; written = h }
+wrote true false m lent later (Ok k) n h e =
     let told = h.0 in
     let z : ◌≡◌ {A = ℕ} 0 17 = cc in
     absurd (omega arith)
-wrote false serial m lent later (Done k) n h e =
+wrote false serial m lent later (Ok k) n h e =
     let told = h.0 in
     let z : ◌≡◌ {A = ℕ} 0 16 = cc in
     absurd (omega arith)

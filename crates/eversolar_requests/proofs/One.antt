@@ -4,7 +4,7 @@ use Prim.Native.Nat.{ℕ}
 use mathlib.Core.Path.{◌≡◌, sym, ◌∙◌}
 use mathlib.Core.Bool.{Bool, true}
 use mathlib.Core.List.{List}
-use Rattle.answers.specs.declared.Written.{Written}
+use Rattle.answers.specs.Written.{Written}
 use Rattle.answers.proofs.NumbersHaveCases.{written_alike}
 use Rattle.eversolar.specs.Wire.{Message}
 use Rattle.numbers.specs.Addresses.{is_address, is_serial}

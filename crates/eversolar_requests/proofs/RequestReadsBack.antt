@@ -12,7 +12,7 @@ use borrow.Author.Tests.{le-ltb, leb-true, eqb-true}
 use native.Mathlib.Omega.{arith}
 use Rattle.numbers.proofs.TestLaws.{both}
 use Rattle.answers.specs.Written.{length_of, Writes}
-use Rattle.answers.specs.declared.Written.{Written}
+use Rattle.answers.specs.Written.{Written}
 use Rattle.stream.proofs.BytesOfParts.{bytes_cons, bytes_append}
 use Rattle.eversolar.specs.Wire.{Message, Takes, payload_max, wire}
 use Rattle.numbers.specs.Addresses.{last_address, is_address, is_serial}

@@ -5,7 +5,7 @@ use Rattle.answers.specs.Answer.{Answer, need}
 use Rattle.answers.specs.Refusal.{refused}
 use Rattle.answers.specs.Written.{told, writing}
 use Rattle.answers.specs.declared.Refusal.TheVariants.{WrongAddressOrExponentTooLow, NotForThisCall}
-use Rattle.answers.specs.declared.Written.{Written}
+use Rattle.answers.specs.Written.{Written}
 use Rattle.eversolar.specs.Wire.{Message, wire}
 use Rattle.eversolar_requests.specs.declared.ToAll.{ToAll}
 use Rattle.eversolar_requests.specs.declared.ToAll.TheVariants.{OffLine, Reconnect, ReRegister}

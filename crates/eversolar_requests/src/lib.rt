@@ -1,13 +1,13 @@
 // The nine requests of the master. No control and no function can be chosen freely.
 #![tactic(auto)]
 
-ghost use Rattle.std.specs.Prelude.{◌≡◌};
 ghost use Rattle.eversolar.specs.Writer.{WritesMessage};
-ghost use Rattle.numbers.specs.Addresses.{is_address};
+ghost use Rattle.numbers.specs.Addresses.{is_address, is_serial};
 ghost use Rattle.eversolar_requests.specs.Requests.{request, ask_all, ask_one, IsAskAll, IsAskOne, IsGiveAddress};
-ghost use Rattle.eversolar_requests.specs.Inside.{IsCode};
+ghost use Rattle.eversolar_requests.specs.Inside.{IsCode, Passes};
+ghost use Rattle.answers.specs.declared.Refusal.TheVariants.{WrongAddressOrExponentTooLow, NotForThisCall};
 
-use answers::{Refusal, Written};
+use answers::Refusal;
 use eversolar::write;
 
 // Requests that go to every inverter.
@@ -46,12 +46,10 @@ const OTHERS_FIRST: u8 = 0x00;
 // The second byte of the destination that is every inverter.
 const EVERYONE: u8 = 0x00;
 
-// The two control codes, and the function that gives an address.
+// The two control codes.
 const REGISTER: u8 = 0x10;
 
 const READ: u8 = 0x11;
-
-const GIVE: u8 = 0x01;
 
 // The bytes of a serial.
 const SERIAL_SIZE: usize = 16;
@@ -66,114 +64,111 @@ struct Code {
     function: u8,
 }
 
-fn code_to_all(what: ToAll) -> Code
-    ensures { IsCode (ask_all what) result }
-{
-    match what {
-        ToAll::OffLine => Code {
+// 10/01: an address is given.
+const GIVE: Code = Code {
+    control: REGISTER,
+    function: 0x01,
+};
+
+impl ToAll {
+    // All of them are of the registration.
+    fn code(self) -> Code
+        ensures { IsCode (ask_all self) result }
+    {
+        let function = match self {
+            ToAll::OffLine => 0x00,
+            ToAll::Reconnect => 0x03,
+            ToAll::ReRegister => 0x04,
+        };
+        Code {
             control: REGISTER,
-            function: 0x00,
-        },
-        ToAll::Reconnect => Code {
-            control: REGISTER,
-            function: 0x03,
-        },
-        ToAll::ReRegister => Code {
-            control: REGISTER,
-            function: 0x04,
-        },
+            function,
+        }
     }
 }
 
-fn code_to_one(what: ToOne, address: u8) -> Code
-    ensures { IsCode (ask_one what address) result }
-{
-    match what {
-        ToOne::Remove => Code {
-            control: REGISTER,
-            function: 0x02,
-        },
-        ToOne::Normal => Code {
-            control: READ,
-            function: 0x02,
-        },
-        ToOne::Identity => Code {
-            control: READ,
-            function: 0x03,
-        },
-        ToOne::Settings => Code {
-            control: READ,
-            function: 0x04,
-        },
-        ToOne::FixedSize => Code {
-            control: READ,
-            function: 0x10,
-        },
+impl ToOne {
+    // No address changes it.
+    fn code(self) -> Code
+        ensures { IsCode (ask_one self 0) result }
+    {
+        let (control, function) = match self {
+            ToOne::Remove => (REGISTER, 0x02),
+            ToOne::Normal => (READ, 0x02),
+            ToOne::Identity => (READ, 0x03),
+            ToOne::Settings => (READ, 0x04),
+            ToOne::FixedSize => (READ, 0x10),
+        };
+        Code { control, function }
     }
 }
 
-// Whether an inverter may have this address.
-fn is_address(address: u8) -> bool
-    ensures { result ≡ is_address address }
+// Tests that an inverter may have this address.
+fn check_address(address: u8) -> Result<(), Refusal>
+    ensures { Passes (is_address address) WrongAddressOrExponentTooLow result }
 {
-    (1 <= address) & (address <= LAST_ADDRESS)
+    if (1..=LAST_ADDRESS).contains(&address) {
+        Ok(())
+    } else {
+        Err(Refusal::WrongAddressOrExponentTooLow)
+    }
+}
+
+// Tests that these bytes are as many as a serial has.
+fn check_serial(serial: &[u8]) -> Result<(), Refusal>
+    ensures { Passes (is_serial serial.now) NotForThisCall result }
+{
+    if serial.len() == SERIAL_SIZE {
+        Ok(())
+    } else {
+        Err(Refusal::NotForThisCall)
+    }
 }
 
 // A message from the master.
 fn from_master(
     destination: u8,
-    control: u8,
-    function: u8,
+    code: Code,
     payload: &[u8],
     lent: &mut [u8],
-) -> Written
-    ensures { WritesMessage (request destination control function payload.now) lent.old result lent.new }
+) -> Result<usize, Refusal>
+    ensures { WritesMessage (request destination code.control code.function payload.now) lent.old result lent.new }
 {
     write(
         MASTER_FIRST,
         MASTER_SECOND,
         OTHERS_FIRST,
         destination,
-        control,
-        function,
+        code.control,
+        code.function,
         payload,
         lent,
     )
 }
 
 // Writes a request to every inverter.
-pub fn ask_all(what: ToAll, lent: &mut [u8]) -> Written
+pub fn ask_all(what: ToAll, lent: &mut [u8]) -> Result<usize, Refusal>
     ensures { IsAskAll what lent.old result lent.new }
 {
-    let code = code_to_all(what);
-    let nothing: [u8; 0] = [];
-    from_master(EVERYONE, code.control, code.function, &nothing, lent)
+    from_master(EVERYONE, what.code(), &[], lent)
 }
 
 // Writes a request to one address.
-pub fn ask_one(what: ToOne, address: u8, lent: &mut [u8]) -> Written
+pub fn ask_one(what: ToOne, address: u8, lent: &mut [u8]) -> Result<usize, Refusal>
     ensures { IsAskOne what address lent.old result lent.new }
 {
-    if !is_address(address) {
-        return Written::Refused(Refusal::WrongAddressOrExponentTooLow);
-    }
-    let code = code_to_one(what, address);
-    let nothing: [u8; 0] = [];
-    from_master(address, code.control, code.function, &nothing, lent)
+    check_address(address)?;
+    from_master(address, what.code(), &[], lent)
 }
 
 // Writes the request that gives an address to the inverter of a serial.
-pub fn give_address(serial: &[u8], address: u8, lent: &mut [u8]) -> Written
+pub fn give_address(serial: &[u8], address: u8, lent: &mut [u8]) -> Result<usize, Refusal>
     ensures { IsGiveAddress serial.now address lent.old result lent.new }
 {
-    if !is_address(address) {
-        return Written::Refused(Refusal::WrongAddressOrExponentTooLow);
-    }
-    if serial.len() != SERIAL_SIZE {
-        return Written::Refused(Refusal::NotForThisCall);
-    }
+    check_address(address)?;
+    check_serial(serial)?;
     let mut payload = [0; SERIAL_SIZE + 1];
     payload[..SERIAL_SIZE].copy_from_slice(serial);
     payload[SERIAL_SIZE] = address;
-    from_master(EVERYONE, REGISTER, GIVE, &payload, lent)
+    from_master(EVERYONE, GIVE, &payload, lent)
 }

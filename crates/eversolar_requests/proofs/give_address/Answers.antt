@@ -1,8 +1,13 @@
+use Rattle.std.specs.Prelude.{Err}
+use Rattle.std.proofs.Common.{rules}
 use Prim.Native.Nat.{ℕ}
-use mathlib.Core.Path.{◌≡◌, sym, ◌∙◌}
+use mathlib.Core.Path.{◌≡◌, sym, ap, ◌∙◌, subst}
 use mathlib.Core.List.{List, [], ◌∷◌, ◌++◌}
 use lib.ListN.{length, take, drop, replicate}
 use lib.Seq.{take-length}
+use borrow.Author.Tests.{eqb-true}
+use Rattle.answers.specs.Written.{Written}
+use Rattle.eversolar_requests.specs.Requests.{IsGiveAddress}
 use Rattle.eversolar_requests.proofs.BuilderEnds.{gives_16, gives_17, gives}
 use Rattle.eversolar_requests.proofs.give_address.Goals as goal
 
@@ -10,18 +15,23 @@ use Rattle.eversolar_requests.proofs.give_address.Goals as goal
 copied : (d serial : List ℕ) → length serial ≡ 16 → d ≡ serial → d ++ (0 ∷ []) ≡ take (length serial) serial ++ drop (length serial) (replicate 17 0)
 copied d serial e is = rw (is, take-length serial, e)
 
-pub returns-then-not-is_address : goal.returns-then-not-is_address
-returns-then-not-is_address c =
+pub returns-in_err-check_address : goal.returns-in_err-check_address
+returns-in_err-check_address c =
     let a = c.args in
-    gives_16 a.serial.now a.address a.lent.now (sym c.is_address.ensures ∙ c.if-not-is_address.true)
+    let bad = c.in_err-check_address.ensures in
+    let e : c.from_residual.result ≡ Err c.in_err-check_address.field-0.0 = search rules in
+    subst (λ (w : Written). IsGiveAddress a.serial.now a.address a.lent.now w a.lent.now) (sym (e ∙ ap Err bad.1)) (gives_16 a.serial.now a.address a.lent.now bad.0)
 
-pub returns-then-serial-ne-SERIAL_SIZE : goal.returns-then-serial-ne-SERIAL_SIZE
-returns-then-serial-ne-SERIAL_SIZE c =
+pub returns-in_err-check_serial : goal.returns-in_err-check_serial
+returns-in_err-check_serial c =
     let a = c.args in
-    gives_17 a.serial.now a.address a.lent.now (sym c.is_address.ensures ∙ c.if-not-is_address.false) c.if-serial-ne-SERIAL_SIZE.true
+    let bad = c.in_err-check_serial.ensures in
+    let e : c.from_residual-in_err-check_serial.result ≡ Err c.in_err-check_serial.field-0.0 = search rules in
+    subst (λ (w : Written). IsGiveAddress a.serial.now a.address a.lent.now w a.lent.now) (sym (e ∙ ap Err bad.1))
+    (gives_17 a.serial.now a.address a.lent.now c.in_ok-check_address.ensures bad.0)
 
 pub returns : goal.returns
 returns c =
     let a = c.args in
-    let sixteen = c.if-serial-ne-SERIAL_SIZE.false in
-    gives a.serial.now a.address a.lent.now _ c.from_master.new.lent c.from_master.result (sym c.is_address.ensures ∙ c.if-not-is_address.false) sixteen (copied _ a.serial.now sixteen c.copy_from_slice.ensures.after) c.from_master.ensures
+    let sixteen = eqb-true (length a.serial.now) 16 c.in_ok-check_serial.ensures in
+    gives a.serial.now a.address a.lent.now _ c.from_master.new.lent c.from_master.result c.in_ok-check_address.ensures sixteen (copied _ a.serial.now sixteen c.copy_from_slice.ensures.after) c.from_master.ensures

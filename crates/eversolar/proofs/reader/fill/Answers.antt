@@ -1,35 +1,29 @@
-use lib.ListN.{length-set, get_or, set}
-use Rattle.stream.specs.Pieces.{scan_from}
-use Rattle.stream.proofs.LoopScans.{from_goes}
-use Rattle.eversolar.specs.Machine.{holding, next}
-use Rattle.eversolar.proofs.MachineMoves.{keep_more}
+use Prim.Native.Nat.{ℕ, ◌+◌, ◌-◌}
+use mathlib.Core.Path.{◌≡◌, sym, ap, ◌∙◌}
+use mathlib.Core.List.{List}
+use lib.ListN.{length, take, drop, length-drop}
+use lib.Seq.{sets, length-take-le}
+use borrow.Rule.Slice.PartMut.{put_mid}
 use native.Mathlib.Omega.{arith}
-use Prim.Native.Nat.{ℕ, ◌+◌}
-use mathlib.Core.Path.{refl, ◌∙◌, ap}
+use Rattle.stream.specs.Pieces.{scan_from}
+use Rattle.eversolar.specs.Machine.{holding, next}
+use Rattle.eversolar.proofs.CopiedIn.{put, keeps_all}
 use Rattle.eversolar.proofs.reader.fill.Goals as goal
-
-pub loop-i-init : goal.loop-i-init
-loop-i-init c = (omega arith, omega arith, omega arith, refl, refl)
-
-pub loop-i-preserved : goal.loop-i-preserved
-loop-i-preserved c =
-    let l = c.loop-i in
-    let a = c.args in (
-      omega arith,
-      omega arith,
-      omega arith,
-      simp length-set l.invariant.3,
-      l.invariant.4 ∙ from_goes next (holding a.stage l.at a.len l.held) (holding a.stage (l.at + 1) a.len (set l.held l.at (get_or a.piece.now l.i 0))) a.piece.now l.i (omega arith) (keep_more a.stage l.at a.len l.held _ (omega arith) (omega arith)),
-    )
 
 pub returns : goal.returns
 returns c =
-    let l = c.loop-i in
     let a = c.args in
-    record {
+    let n = c.min-n.result in
+    let held = a.held.now in
+    let src : List ℕ = take n (drop a.from a.piece.now) in
+    let long : length src ≡ n = length-take-le n (drop a.from a.piece.now) (simp length-drop (omega arith)) in
+    let cut : a.from + n - a.from ≡ n = omega arith in
+    let m : c.copy_from_slice.new.self ≡ src = rw cut at c.copy_from_slice.ensures.after in
+    let stored : put_mid a.count (a.count + n - a.count) held c.copy_from_slice.new.self ≡ sets held a.count src = put held _ src a.count n long (omega arith) m in
+    rw stored (record {
       forward = omega arith;
       within = omega arith;
       room = omega arith;
-      sized = l.invariant.3;
-      goes = l.invariant.4 ∙ ap (λ (n : ℕ). scan_from next (holding a.stage n a.len l.held) a.piece.now l.i) l.invariant.2;
-    }
+      goes = keeps_all a.stage a.len n a.count held a.piece.now a.from (omega arith) (omega arith) (omega arith)
+          ∙ ap (λ (k : ℕ). scan_from next (holding a.stage (a.count + k) a.len (sets held a.count src)) a.piece.now (a.from + n)) (sym cut);
+    })

@@ -2,7 +2,7 @@ use Prim.Native.Nat.{ℕ, ◌+◌, ◌-◌, ◌<◌, ◌≤◌}
 use mathlib.Core.Path.{subst, ◌≡◌, refl, sym, ◌∙◌, ap}
 use mathlib.Core.Option.{none, some}
 use mathlib.Core.List.{List}
-use lib.ListN.{length-set, length, get_or}
+use lib.ListN.{length, get_or}
 use borrow.Author.Tests.{le-ltb}
 use native.Mathlib.Omega.{arith}
 use Rattle.stream.specs.Event.{Event}
@@ -43,44 +43,35 @@ pub loop-i-init : goal.loop-i-init
 loop-i-init c =
     let a = c.args in (
       omega arith,
-      range_of a.stage a.count a.len c.requires.0,
-      refl,
+      range_of a.stage a.count a.len c.requires,
       from_start next (holding a.stage a.count a.len a.held.now) a.piece.now,
     )
 
-pub bounds-held-count : goal.bounds-held-count
-bounds-held-count c =
+pub fill-kept-requires : goal.fill-kept-requires
+fill-kept-requires c =
     let l = c.loop-i in
     let h = asks l.stage l.count l.len Keep c.if-stage-lt-IN_LEAD.false l.invariant.1 c.in-Keep.ensures in
-    omega (arith, h)
-
-pub fill-j-requires : goal.fill-j-requires
-fill-j-requires c =
-    let l = c.loop-i in
-    let h = asks l.stage l.count l.len Keep c.if-stage-lt-IN_LEAD.false l.invariant.1 c.in-Keep.ensures in
-    (c.if-stage-lt-IN_LEAD.false, range_len _ _ _ l.invariant.1, omega (arith, h), omega arith, simp length-set (l.invariant.2 ∙ c.requires.1))
+    (c.if-stage-lt-IN_LEAD.false, range_len _ _ _ l.invariant.1, omega (arith, h), omega arith)
 
 pub loop-i-preserved-in-Keep : goal.loop-i-preserved-in-Keep
-unfolding moved
 loop-i-preserved-in-Keep c =
     let l = c.loop-i in
-    let f = c.fill-j.ensures in
-    let n = l.count + 1 + (c.fill-j.result - (l.i + 1)) in (
+    let f = c.fill-kept.ensures in
+    let n = l.count + (c.fill-kept.result - l.i) in (
       f.within,
       keeps_range l.stage l.count l.len n c.if-stage-lt-IN_LEAD.false l.invariant.1 (omega arith) f.room,
-      f.sized ∙ simp length-set l.invariant.2,
-      sym f.goes ∙ again l.stage l.count l.len l.held c.args.piece.now l.i Keep _ _ c.loop-i-test.true c.if-stage-lt-IN_LEAD.false c.in-Keep.ensures l.invariant.3 refl,
+      sym f.goes ∙ l.invariant.2,
     )
 
 pub loop-i-preserved : goal.loop-i-preserved
 unfolding moved
 loop-i-preserved c =
     let l = c.loop-i in
-    let small : get_or c.args.piece.now l.i 0 < 256 = omega (arith, c.type_inv.piece l.i) in (
+    let small : get_or c.args.piece.now l.i 0 < 256 = omega (arith, c.type_inv.piece l.i) in
+    let length_read = c.from-len.ensures in (
       omega arith,
       body refl (omega arith) (omega arith) (omega arith),
-      simp length-set l.invariant.2,
-      again l.stage l.count l.len l.held c.args.piece.now l.i Size _ _ c.loop-i-test.true c.if-stage-lt-IN_LEAD.false c.in-Size.ensures l.invariant.3 refl,
+      rw length_read (again l.stage l.count l.len l.held c.args.piece.now l.i Size _ _ c.loop-i-test.true c.if-stage-lt-IN_LEAD.false c.in-Size.ensures l.invariant.2 refl),
     )
 
 pub returns-in-Close : goal.returns-in-Close
@@ -88,18 +79,16 @@ unfolding moved
 returns-in-Close c =
     let l = c.loop-i in
     record {
-      sized = l.invariant.2;
       fits = range_len _ _ _ l.invariant.1;
       ranged = in_range_lem _ _ _ (look (omega arith) refl refl);
-      scanned = tells l.stage l.count l.len l.held c.args.piece.now l.i Close _ _ _ c.loop-i-test.true c.if-stage-lt-IN_LEAD.false c.in-Close.ensures l.invariant.3 refl;
+      scanned = tells l.stage l.count l.len l.held c.args.piece.now l.i Close _ _ _ c.loop-i-test.true c.if-stage-lt-IN_LEAD.false c.in-Close.ensures l.invariant.2 refl;
     }
 
 pub returns : goal.returns
 returns c =
     let l = c.loop-i in
     record {
-      sized = l.invariant.2;
       fits = tt;
       ranged = in_range_lem _ _ _ l.invariant.1;
-      scanned = sym l.invariant.3 ∙ from_end next (holding l.stage l.count l.len l.held) c.args.piece.now l.i c.loop-i-test.false;
+      scanned = sym l.invariant.2 ∙ from_end next (holding l.stage l.count l.len l.held) c.args.piece.now l.i c.loop-i-test.false;
     }

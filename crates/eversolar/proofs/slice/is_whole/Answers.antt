@@ -1,7 +1,7 @@
 use borrow.Author.Tests.{lt-leb}
 use native.Mathlib.Omega.{arith}
 use Prim.Native.Nat.{◌+◌, ◌-◌}
-use mathlib.Core.Path.{refl, sym}
+use mathlib.Core.Path.{sym}
 use lib.ListN.{length, get_or}
 use Rattle.eversolar.proofs.slice.is_whole.Goals as goal
 
@@ -11,4 +11,4 @@ returns-then-left-lt-LEAST c =
     sym (lt-leb (11 + get_or a.slice.now (a.mark + 2 + 6) 0) (length a.slice.now - a.mark) (omega arith))
 
 pub returns : goal.returns
-returns c = refl
+returns c = rw c.from-len.ensures

@@ -1,21 +1,15 @@
 use Prim.Native.Nat.{ℕ, ◌+◌, ◌-◌, ◌≤◌}
-use mathlib.Core.Path.{◌≡◌, sym, ◌∙◌, ap}
-use mathlib.Core.List.{List, ◌++◌, append_assoc}
-use lib.ListN.{length, take, drop}
-use lib.Seq.{sets, sets-eq, length-sets, drop-drop}
+use mathlib.Core.Path.{◌≡◌, refl, sym, ◌∙◌, ap}
+use mathlib.Core.List.{List, ◌++◌}
+use lib.ListN.{length, drop}
+use lib.Seq.{sets, sets-eq, length-sets}
 use borrow.Rule.Slice.PartMut.{put_mid}
 use native.Mathlib.Omega.{arith}
 use Rattle.eversolar_words.specs.Words.{word_bytes}
 use Rattle.eversolar.specs.Wire.{Message, checksum}
+use Rattle.eversolar.proofs.CopiedIn.{put}
 use Rattle.eversolar.proofs.WriterWritesFrame.{too_long, no_room, done, first, all_summed, framed}
 use Rattle.eversolar.proofs.writer.write.Goals as goal
-
--- all of src, put into l from `at` on
-put : (l m src : List ℕ) (at : ℕ) → at + length src ≤ length l → m ≡ src → put_mid at (at + length src - at) l m ≡ sets l at src
-put l m src at room e =
-    let one : at + length src - at ≡ length src = omega arith in
-    let parts : put_mid at (at + length src - at) l m ≡ take at l ++ (src ++ drop (at + length src) l) = rw (one, e, drop-drop (length src) at l) in
-    parts ∙ sym (append_assoc (take at l) src (drop (at + length src) l)) ∙ sym (sets-eq src l at room)
 
 abbrev msg : (a b c d e f : ℕ) → List ℕ → Message
 msg a b c d e f payload = record {
@@ -44,13 +38,14 @@ returns c =
     let m = msg a.source_first a.source_second a.destination_first a.destination_second a.control a.function a.payload.now in
     let lent = a.lent.now in
     let n = length a.payload.now in
-    let headed = c.put_lead.new.lent in
+    let headed : List ℕ = c.copy_from_slice.new.self ++ drop 9 lent in
     let room : 9 + n + 2 ≤ length lent = omega arith in
-    let same : length headed ≡ length lent = ap length c.put_lead.ensures ∙ length-sets lent 0 (first m lent) in
-    let held : List ℕ = put_mid 9 (9 + n - 9) headed c.copy_from_slice.new.self in
+    let led : headed ≡ sets lent 0 (first m lent) = ap (λ (l : List ℕ). l ++ drop 9 lent) c.copy_from_slice.ensures.after ∙ sym (sets-eq (first m lent) lent 0 (omega arith)) in
+    let same : length headed ≡ length lent = ap length led ∙ length-sets lent 0 (first m lent) in
+    let held : List ℕ = put_mid 9 (9 + n - 9) headed c.copy_from_slice-2.new.self in
     let stored : held ≡ sets (sets lent 0 (first m lent)) 9 a.payload.now =
-    put headed c.copy_from_slice.new.self a.payload.now 9 (omega arith) c.copy_from_slice.ensures.after
-    ∙ ap (λ (l : List ℕ). sets l 9 a.payload.now) c.put_lead.ensures in
+    put headed c.copy_from_slice-2.new.self a.payload.now 9 n refl (omega arith) c.copy_from_slice-2.ensures.after
+    ∙ ap (λ (l : List ℕ). sets l 9 a.payload.now) led in
     let sum = c.checksum_of-sum.ensures ∙ ap checksum (all_summed m lent held stored room) in
     done m lent _ _ (omega arith) (omega arith) room
     (framed m lent held c.bytes_of-pair.result.first c.bytes_of-pair.result.second stored (c.bytes_of-pair.ensures ∙ ap word_bytes sum) room)
