@@ -1,6 +1,10 @@
 -- What the rule finds in a slice from a place on, by what stands there.
 -- Assumes nothing.
-use Prim.Native.Nat.{ℕ, ◌+◌, ◌-◌, ◌≤◌, ◌<◌}
+use Rattle.std.specs.Prelude.{Some, None, position, nat_lt, not}
+use Rattle.std.specs.List.{position_or_len}
+use Rattle.std.specs.Option.{unwrap_or}
+use Rattle.std.proofs.lemmas.List.Sums.{fails_before_first, passes_at_first}
+use Prim.Native.Nat.{ℕ, zero, suc, ◌+◌, ◌-◌, ◌≤◌, ◌<◌}
 use mathlib.Core.Path.{◌≡◌, refl, sym, ap, ap₂, ◌∙◌}
 use mathlib.Core.Bool.{Bool, true, false, cond, ◌&&◌, and_assoc, and-false}
 use mathlib.Core.Option.{none, some}
@@ -8,13 +12,14 @@ use mathlib.Core.List.{List, [], ◌∷◌}
 use lib.ListN.{length, take, drop, get_or, length-drop, drop_of_length-le}
 use lib.Seq.{get_or-drop, drop-drop}
 use lib.Dec.{eqb, ltb}
-use borrow.Author.Tests.{eq-eqb, ne_eqb, lt-ltb, le-ltb}
+use borrow.Author.Tests.{eq-eqb, ne_eqb, lt-ltb, le-ltb, eqb-true, ltb-true, ltb-false}
 use native.Mathlib.Nat.{add-zero}
 use native.Mathlib.Omega.{arith}
 use Rattle.stream.specs.Event.{damage}
 use Rattle.fronius.specs.Wire.{mark}
 use Rattle.fronius.specs.Rules.{judged, frame, sized, starts, sought}
-use Rattle.fronius.specs.Inside.{StartFrom}
+use Rattle.fronius.specs.Inside.{StartFrom, PastMarks}
+use Rattle.fronius.proofs.StageRanges.{false_true}
 
 -- ---- of bytes that are there, by the first ones
 
@@ -36,6 +41,10 @@ few at [] h = refl
 few at (a ∷ []) h = rw (and-false (eqb a mark))
 few at (a ∷ b ∷ []) h = rw (and-false (eqb b mark), and-false (eqb a mark))
 few at (a ∷ b ∷ c ∷ bs) h = absurd (omega arith)
+
+not_false : (b : Bool) → not b ≡ false → b ≡ true
+not_false true e = refl
+not_false false e = sym e
 
 -- ---- in a slice
 
@@ -106,6 +115,48 @@ module _ (s : List ℕ) where
       let one : at + (i - from) + 1 ≡ at + (i + 1 - from) = omega arith in
       h at ∙ sized_by (at + (i - from)) (drop i s) true false (there i lt) (eq-eqb (get_or (drop i s) 0 0) mark (first i ∙ e)) (le-ltb mark (get_or (drop i s) 0 0) (omega (arith, first i, e)))
       ∙ ap₂ sized one (drop-drop 1 i s)
+
+  passed_all : (from n : ℕ) → from + n ≤ length s → ((k : ℕ) → k < n → get_or s (from + k) 0 ≡ mark) → Passed from (from + n)
+  passed_all from zero le h = rw (add-zero from) (passed_from from)
+  passed_all from (suc n) le h =
+      let one : from + suc n ≡ from + n + 1 = omega arith in
+      rw one (passed_on from (from + n) (omega arith) (omega arith) (h n (omega arith)) (passed_all from n (omega arith) (λ k lt. h k (omega arith))))
+
+  -- up to the first that is none, or to the end
+  abbrev other : ℕ → Bool
+  other b = not (eqb b mark)
+
+  mark_before : (from k : ℕ) → k < position_or_len other (drop from s) → get_or s (from + k) 0 ≡ mark
+  mark_before from k lt =
+      eqb-true (get_or s (from + k) 0) mark
+      (not_false (eqb (get_or s (from + k) 0) mark) (ap other (sym (get_or-drop from s k 0)) ∙ fails_before_first other (drop from s) k 0 lt))
+
+  pub marks_passed : (from : ℕ) → from ≤ length s → PastMarks s from (from + unwrap_or (position other (drop from s)) (length (drop from s)))
+  marks_passed from le = go (nat_lt (position_or_len other (drop from s)) (length (drop from s))) refl
+    where
+      first_other : ℕ
+      first_other = position_or_len other (drop from s)
+
+      all : length (drop from s) ≡ length s - from
+      all = length-drop from s
+
+      go : (t : Bool) → nat_lt first_other (length (drop from s)) ≡ t → PastMarks s from (from + unwrap_or (cond t (Some first_other) None) (length (drop from s)))
+      go true e =
+          let lt : first_other < length (drop from s) = ltb-true first_other (length (drop from s)) e in
+          record {
+            forward = omega arith;
+            other =
+                λ m. false_true (sym (ap other (get_or-drop from s first_other 0 ∙ m)) ∙ passes_at_first other (drop from s) 0 lt);
+            found = passed_all from first_other (omega (arith, all)) (mark_before from);
+          }
+      go false e =
+          let far : length (drop from s) ≤ first_other = ltb-false first_other (length (drop from s)) e in
+          let none_there = past_end (from + length (drop from s)) (omega (arith, all)) in
+          record {
+            forward = omega arith;
+            other = λ m. omega (arith, m, none_there);
+            found = passed_all from (length (drop from s)) (omega (arith, all)) (λ k lt. mark_before from k (omega arith));
+          }
 
   -- ---- the length, and the frame behind it
 

@@ -6,7 +6,7 @@ use mathlib.Core.List.{List}
 use lib.ListN.{length}
 use lib.Dec.{ltb}
 use Rattle.numbers.proofs.Alike.{alike_by_back}
-use Rattle.answers.specs.declared.Written.{Written}
+use Rattle.answers.specs.Written.{Written}
 use Rattle.answers.proofs.NumbersHaveCases.{refusals, damages}
 use Rattle.answers.proofs.WriterPromise.{writes_one}
 use Rattle.stream.specs.Event.{message, damage, Told, done, gives, refuses}

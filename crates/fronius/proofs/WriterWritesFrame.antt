@@ -1,5 +1,6 @@
 -- What the writer's stores make of the lent buffer: a frame, and then what was there.
 -- Assumes nothing.
+use Rattle.std.specs.Prelude.{Ok, Err}
 use Prim.Native.Nat.{ℕ, suc, ◌+◌, ◌-◌, ◌≤◌, ◌<◌}
 use mathlib.Core.Path.{◌≡◌, sym, ap, ◌∙◌, subst}
 use mathlib.Core.Bool.{false}
@@ -10,7 +11,6 @@ use borrow.Rule.Slice.PartMut.{put_mid}
 use borrow.Author.Tests.{lt-ltb, le-ltb}
 use native.Mathlib.Omega.{arith}
 use Rattle.answers.specs.Written.{Writes}
-use Rattle.answers.specs.declared.Written.TheVariants.{Done, Refused}
 use Rattle.answers.specs.declared.Refusal.TheVariants.{TooLong, NoRoom}
 use Rattle.answers.proofs.WriterPromise.{writes_too_long, writes_no_room, writes_done}
 use Rattle.stream.proofs.ListLaws.{sets_append, sets_front}
@@ -31,19 +31,19 @@ module _ (d n c : ℕ) (bs lent : List ℕ) where
   abbrev M : Message
   M = record { device = d; number = n; command = c; payload = bs }
 
-  pub too_long : payload_max < length bs → IsWritten d n c bs lent (Refused TooLong) lent
+  pub too_long : payload_max < length bs → IsWritten d n c bs lent (Err TooLong) lent
   too_long h = rw (lt-ltb payload_max (length bs) h) (writes_too_long (wire M) lent)
 
-  pub no_room : length bs ≤ payload_max → length lent < 7 + length bs + 1 → IsWritten d n c bs lent (Refused NoRoom) lent
+  pub no_room : length bs ≤ payload_max → length lent < 7 + length bs + 1 → IsWritten d n c bs lent (Err NoRoom) lent
   no_room h r = rw (le-ltb payload_max (length bs) h) (writes_no_room (wire M) lent (omega (arith, wire_length M)))
 
   pub done : (count : ℕ) (later : List ℕ) → length bs ≤ payload_max → count ≡ 7 + length bs + 1 → 7 + length bs + 1 ≤ length lent
-      → later ≡ wire M ++ drop (length (wire M)) lent → IsWritten d n c bs lent (Done count) later
+      → later ≡ wire M ++ drop (length (wire M)) lent → IsWritten d n c bs lent (Ok count) later
   done count later h is r e =
       let all : length (wire M) ≡ count = omega (arith, wire_length M) in
       rw (le-ltb payload_max (length bs) h)
-      (subst (λ (l : List ℕ). Writes false (wire M) lent (Done count) l) (sym e)
-      (subst (λ (k : ℕ). Writes false (wire M) lent (Done k) (wire M ++ drop (length (wire M)) lent)) all
+      (subst (λ (l : List ℕ). Writes false (wire M) lent (Ok count) l) (sym e)
+      (subst (λ (k : ℕ). Writes false (wire M) lent (Ok k) (wire M ++ drop (length (wire M)) lent)) all
       (writes_done (wire M) lent (omega (arith, wire_length M)))))
 
   -- lead and data in front of the rest

@@ -16,6 +16,8 @@ use Rattle.fronius.specs.Slice.{shown}
 use Rattle.fronius.specs.declared.reader.Header.{Header}
 use Rattle.fronius.specs.declared.reader.Answer.{Answer}
 use Rattle.fronius.specs.declared.reader.Answer.TheVariants.{Done}
+use Rattle.fronius.specs.declared.reader.Reader.{Reader}
+use Rattle.fronius.specs.declared.reader.State.{State}
 use Rattle.fronius.specs.declared.reader.Entered.{Entered}
 use Rattle.fronius.specs.declared.reader.Ran.{Ran}
 use Rattle.fronius.specs.declared.reader.End.{End}
@@ -27,7 +29,6 @@ pub record Filled (count len : ℕ) (held piece : List ℕ) (i j : ℕ) (later :
   pub forward : i ≤ j
   pub within : j ≤ length piece
   pub room : count + (j - i) ≤ 3 + len
-  pub sized : length later ≡ length held
   pub goes : scan_from next (filling count len held) piece i ≡ scan_from next (filling (count + (j - i)) len later) piece j
 
 -- `opens`: a start is looked for, and three marks and a length stand at the front
@@ -35,12 +36,15 @@ abbrev pub Opens : ℕ → List ℕ → Type 0
 Opens stage piece =
     (stage ≡ 0) × (4 ≤ length piece) × (get_or piece 0 0 ≡ mark) × (get_or piece 1 0 ≡ mark) × (get_or piece 2 0 ≡ mark) × (get_or piece 3 0 < mark)
 
+-- a state with the bytes held put to it
+abbrev pub with_held : State → List ℕ → Reader
+with_held s = holding s.stage s.count s.len
+
 -- `enter`: the call goes on from there, in a state in range
-pub record Enters (stage count len : ℕ) (held piece : List ℕ) (r : Entered) (later : List ℕ) : Type 0 where
+pub record Enters (s : State) (held piece : List ℕ) (r : Entered) (later : List ℕ) : Type 0 where
   pub within : r.at ≤ length piece
-  pub sized : length later ≡ length held
-  pub ranged : in_range r.stage r.count r.len ≡ true
-  pub goes : scan_from next (holding r.stage r.count r.len later) piece r.at ≡ scan next (holding stage count len held) piece
+  pub ranged : in_range r.state.stage r.state.count r.state.len ≡ true
+  pub goes : scan_from next (with_held r.state later) piece r.at ≡ scan next (with_held s held) piece
 
 -- the event that a frame is, by its length, the checksum that came and the held bytes
 abbrev pub judged_frame : ℕ → ℕ → List ℕ → Option (Event Message)
@@ -59,13 +63,10 @@ Fits (Closed len sum) = len ≤ payload_max
 Fits BadLength = Unit {0}
 
 -- `run_in`: the scan of the piece, which ends in a state in range
-pub record Runs (stage count len : ℕ) (held piece : List ℕ) (r : Ran) (later : List ℕ) : Type 0 where
-  pub sized : length later ≡ length held
+pub record Runs (s : State) (held piece : List ℕ) (r : Ran) (later : List ℕ) : Type 0 where
   pub fits : Fits r.end
-  pub ranged : in_range r.stage r.count r.len ≡ true
-  pub scanned :
-      scan next (holding stage count len held) piece
-      ≡ record { state = holding r.stage r.count r.len later; event = event_of r.end later; used = r.used }
+  pub ranged : in_range r.state.stage r.state.count r.state.len ≡ true
+  pub scanned : scan next (with_held s held) piece ≡ record { state = with_held r.state later; event = event_of r.end later; used = r.used }
 
 -- `judge`: the answer tells the event
 abbrev pub JudgedAs : Option (Event Message) → Answer → Type 0

@@ -1,7 +1,7 @@
 -- What the writer promises.
 use Rattle.std.specs.Prelude.{ℕ, List, length, ltb}
 use Rattle.answers.specs.Written.{Writes}
-use Rattle.answers.specs.declared.Written.{Written}
+use Rattle.answers.specs.Written.{Written}
 use Rattle.fronius.specs.Wire.{payload_max, wire}
 
 -- what `write` promises of device, number, command and data, the lent buffer, its result and the buffer afterwards:

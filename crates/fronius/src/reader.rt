@@ -10,12 +10,11 @@ ghost use Rattle.std.specs.Prelude.{◌+◌, ◌%◌, ◌≤◌, ◌≡◌, true
 ghost use Rattle.stream.specs.Call.{lent_least};
 ghost use Rattle.fronius.specs.Wire.{payload_max, checksum};
 ghost use Rattle.numbers.specs.Lists.{total};
-ghost use Rattle.fronius.specs.Machine.{held_max, advance_of, in_range};
+ghost use Rattle.fronius.specs.Machine.{advance_of, in_range};
 ghost use Rattle.fronius.specs.Reader.{IsFresh, IsStep, IsStepInPlace};
 ghost use Rattle.fronius.specs.Inside.{Filled, Opens, Enters, Fits, Runs, event_of, judged_frame, JudgedAs, Small, There, given};
 
 use answers::{Damage, Refusal};
-use numbers::least;
 
 // The limits, named here because the reader's own constants cannot size its own array. 80 80 80, length, device, number and command come before the data.
 const HEADER: usize = 7;
@@ -87,7 +86,7 @@ pub struct StepInPlace {
     pub used: usize,
 }
 
-// The two stages.
+// The two stages: numbers and no enum, since a host may hand back a stage that is neither, and is refused by `IsStepInPlace`.
 const AT_START: u8 = 0;
 
 const IN_BODY: u8 = 1;
@@ -97,23 +96,12 @@ pub(crate) const MARK: u8 = 0x80;
 
 pub(crate) const STARTS: usize = 3;
 
-// Whether stage, count and length are in the stage's range.
-fn in_range(stage: u8, count: usize, len: usize) -> bool
-    ensures { result ≡ in_range stage count len }
-{
-    if stage == AT_START {
-        if STARTS < count {
-            return false;
-        }
-        return len == 0;
-    }
-    if stage != IN_BODY {
-        return false;
-    }
-    if PAYLOAD < len {
-        return false;
-    }
-    count <= PAYLOAD_AT + len
+// Where a reader stands: all of it but the bytes held.
+#[derive(Clone, Copy)]
+struct State {
+    stage: u8,
+    count: usize,
+    len: usize,
 }
 
 // What one byte asks of the reader.
@@ -131,30 +119,58 @@ enum Move {
     Bad,
 }
 
-// Says what a byte asks in a stage. Beside it only `opens` decides what a byte means.
-fn advance(stage: u8, count: usize, len: usize, b: u8) -> Move
-    requires { len ≤ payload_max }
-    ensures { result ≡ advance_of stage count len b }
-{
-    if stage == AT_START {
-        if count < STARTS {
-            if b == MARK {
-                return Move::Count(count + 1);
+impl State {
+    // where no byte of a start has come
+    const FRESH: State = State {
+        stage: AT_START,
+        count: 0,
+        len: 0,
+    };
+
+    // Whether count and length are in the stage's range.
+    fn in_range(self) -> bool
+        ensures { result ≡ in_range self.stage self.count self.len }
+    {
+        if self.stage == AT_START {
+            if STARTS < self.count {
+                return false;
             }
-            return Move::Count(0);
+            return self.len == 0;
         }
-        if b == MARK {
-            return Move::Count(STARTS);
+        if self.stage != IN_BODY {
+            return false;
         }
-        if b < MARK {
-            return Move::Open(b as usize);
+        if PAYLOAD < self.len {
+            return false;
         }
-        return Move::Bad;
+        self.count <= PAYLOAD_AT + self.len
     }
-    if count < PAYLOAD_AT + len {
-        return Move::Keep;
+
+    // Says what a byte asks. Beside it only `opens` decides what a byte means.
+    fn advance(self, b: u8) -> Move
+        requires { self.len ≤ payload_max }
+        ensures { result ≡ advance_of self.stage self.count self.len b }
+    {
+        if self.stage == AT_START {
+            if self.count < STARTS {
+                if b == MARK {
+                    return Move::Count(self.count + 1);
+                }
+                return Move::Count(0);
+            }
+            if b == MARK {
+                return Move::Count(STARTS);
+            }
+            if b < MARK {
+                return Move::Open(usize::from(b));
+            }
+            return Move::Bad;
+        }
+        if self.count < PAYLOAD_AT + self.len {
+            return Move::Keep;
+        }
+        Move::Close
     }
-    Move::Close
 }
 
 // How a run over a piece ended.
@@ -169,27 +185,24 @@ enum End {
 // What a run hands back beside the held bytes.
 #[derive(Clone, Copy)]
 struct Ran {
-    stage: u8,
-    count: usize,
-    len: usize,
+    state: State,
     used: usize,
     end: End,
 }
 
 // Takes in bytes of the body from `from` on, whatever they are: as many as it still lacks and the piece has. Gives the index after the last.
-fn fill(count: usize, len: usize, held: &mut [u8], piece: &[u8], from: usize) -> usize
-    requires { (count ≤ 3 + len) × (len ≤ payload_max) × (from ≤ length piece.now) × (length held.old ≡ held_max) }
+// Where there are none, as in pieces of one byte, no copy is called: `bench/run in_place` counts 17 instructions for each such call.
+fn fill(count: usize, len: usize, held: &mut [u8; HELD], piece: &[u8], from: usize) -> usize
+    requires { (count ≤ 3 + len) × (len ≤ payload_max) × (from ≤ length piece.now) }
     ensures { Filled count len held.old piece.now from result held.new }
 {
-    let stop = from + least(piece.len() - from, PAYLOAD_AT + len - count);
-    let mut at = count;
-    let mut i = from;
-    while i < stop {
-        held[at] = piece[i];
-        at += 1;
-        i += 1;
+    let n = (piece.len() - from).min(PAYLOAD_AT + len - count);
+    if n == 0 {
+        return from;
     }
-    i
+    let stop = from + n;
+    held[count..count + n].copy_from_slice(&piece[from..stop]);
+    stop
 }
 
 // Whether the piece begins with a whole start and a length, where a start is looked for. How many 80s came before makes no difference then.
@@ -202,22 +215,16 @@ fn opens(stage: u8, piece: &[u8]) -> bool
     if piece.len() < UNHELD {
         return false;
     }
-    if piece[0] != MARK {
-        return false;
-    }
-    if piece[1] != MARK {
-        return false;
-    }
-    if piece[2] != MARK {
+    if !piece.starts_with(&[MARK; STARTS]) {
         return false;
     }
     piece[3] < MARK
 }
 
 // Takes in the body behind a start and a length at the front of the piece, as far as it is there. Gives the index after the last byte taken.
-// A header alone is stored byte by byte: the compiler makes a call of the loop in `fill`, which takes longer than three stores.
-fn take_body(len: usize, held: &mut [u8], piece: &[u8]) -> usize
-    requires { (len ≤ payload_max) × (4 ≤ length piece.now) × (length held.old ≡ held_max) }
+// A header alone is stored byte by byte: the compiler makes a call of the copy in `fill`, which takes longer than three stores.
+fn take_body(len: usize, held: &mut [u8; HELD], piece: &[u8]) -> usize
+    requires { (len ≤ payload_max) × (4 ≤ length piece.now) }
     ensures { Filled 0 len held.old piece.now 4 result held.new }
 {
     if HEADER <= piece.len() {
@@ -234,72 +241,67 @@ fn take_body(len: usize, held: &mut [u8], piece: &[u8]) -> usize
 // The state to go on in byte by byte, and the index to go on from.
 #[derive(Clone, Copy)]
 struct Entered {
-    stage: u8,
-    count: usize,
-    len: usize,
+    state: State,
     at: usize,
 }
 
 // Takes in at once a whole start, a length and the body behind them, where the piece begins with them: so it does where frames follow one another.
-fn enter(stage: u8, count: usize, len: usize, held: &mut [u8], piece: &[u8]) -> Entered
-    requires { (in_range stage count len ≡ true) × (length held.old ≡ held_max) }
-    ensures { Enters stage count len held.old piece.now result held.new }
+fn enter(state: State, held: &mut [u8; HELD], piece: &[u8]) -> Entered
+    requires { in_range state.stage state.count state.len ≡ true }
+    ensures { Enters state held.old piece.now result held.new }
 {
-    if !opens(stage, piece) {
-        return Entered {
-            stage,
-            count,
-            len,
-            at: 0,
-        };
+    if !opens(state.stage, piece) {
+        return Entered { state, at: 0 };
     }
-    let n = piece[3] as usize;
-    let at = take_body(n, held, piece);
-    Entered {
+    let len = usize::from(piece[3]);
+    let at = take_body(len, held, piece);
+    let state = State {
         stage: IN_BODY,
         count: at - UNHELD,
-        len: n,
-        at,
-    }
+        len,
+    };
+    Entered { state, at }
 }
 
 // The piece, but for what `enter` takes of it, byte by byte, up to the end of a frame, a bad length or the end of the piece.
-// It is long because each move has its arm here: a call from an arm would have to lend the whole state.
-fn run_in(stage: u8, count: usize, len: usize, held: &mut [u8], piece: &[u8]) -> Ran
-    requires { (in_range stage count len ≡ true) × (length held.old ≡ held_max) }
-    ensures { Runs stage count len held.old piece.now result held.new }
+// It is long because each move has its arm here: a call from an arm would have to lend the whole state. It counts its index by hand, since a
+// turn that keeps a byte also takes in those that `fill` finds behind it.
+fn run_in(state: State, held: &mut [u8; HELD], piece: &[u8]) -> Ran
+    requires { in_range state.stage state.count state.len ≡ true }
+    ensures { Runs state held.old piece.now result held.new }
 {
-    let entered = enter(stage, count, len, held, piece);
-    let mut stage = entered.stage;
-    let mut count = entered.count;
-    let mut len = entered.len;
+    let entered = enter(state, held, piece);
+    let mut state = entered.state;
     let mut i = entered.at;
     while i < piece.len() {
         let b = piece[i];
-        let m = advance(stage, count, len, b);
+        let m = state.advance(b);
         i += 1;
         match m {
             Move::Count(n) => {
-                count = n;
+                state.count = n;
             }
-            Move::Open(n) => {
-                stage = IN_BODY;
-                count = 0;
-                len = n;
+            Move::Open(len) => {
+                state = State {
+                    stage: IN_BODY,
+                    count: 0,
+                    len,
+                };
             }
             Move::Keep => {
-                held[count] = b;
-                let next = count + 1;
-                let j = fill(next, len, held, piece, i);
-                count = next + (j - i);
+                held[state.count] = b;
+                let next = state.count + 1;
+                let j = fill(next, state.len, held, piece, i);
+                state.count = next + (j - i);
                 i = j;
             }
             Move::Close => {
-                let end = End::Closed { len, sum: b };
+                let end = End::Closed {
+                    len: state.len,
+                    sum: b,
+                };
                 return Ran {
-                    stage: AT_START,
-                    count: 0,
-                    len: 0,
+                    state: State::FRESH,
                     used: i,
                     end,
                 };
@@ -307,9 +309,7 @@ fn run_in(stage: u8, count: usize, len: usize, held: &mut [u8], piece: &[u8]) ->
             Move::Bad => {
                 let end = End::BadLength;
                 return Ran {
-                    stage: AT_START,
-                    count: 0,
-                    len: 0,
+                    state: State::FRESH,
                     used: i,
                     end,
                 };
@@ -318,24 +318,19 @@ fn run_in(stage: u8, count: usize, len: usize, held: &mut [u8], piece: &[u8]) ->
     }
     let end = End::UsedUp;
     Ran {
-        stage,
-        count,
-        len,
+        state,
         used: i,
         end,
     }
 }
 
-// The first `n` bytes of `s` added up, modulo 256 at each step, so that 16 are added at once.
-fn total_of(s: &[u8], n: usize) -> u8
-    requires { n ≤ length s.now }
-    ensures { result ≡ total (take n s.now) % 256 }
+// The bytes of `s` added up, modulo 256 at each step, so that 16 are added at once.
+fn total_of(s: &[u8]) -> u8
+    ensures { result ≡ total s.now % 256 }
 {
     let mut sum: u8 = 0;
-    let mut i: usize = 0;
-    while i < n {
-        sum = ((sum as u16 + s[i] as u16) % 256) as u8;
-        i += 1;
+    for b in s {
+        sum = sum.wrapping_add(*b);
     }
     sum
 }
@@ -345,7 +340,7 @@ pub(crate) fn checksum_of(len: usize, s: &[u8]) -> u8
     requires { (3 + len ≤ length s.now) × (len ≤ payload_max) }
     ensures { result ≡ checksum (len ∷ take (3 + len) s.now) }
 {
-    let sum = len + total_of(s, PAYLOAD_AT + len) as usize;
+    let sum = len + usize::from(total_of(&s[..PAYLOAD_AT + len]));
     (sum % 256) as u8
 }
 
@@ -372,8 +367,8 @@ pub(crate) fn judge_frame(len: usize, sum: u8, held: &[u8]) -> Answer
 }
 
 // What the end of a run comes to.
-fn judge(end: End, held: &[u8]) -> Answer
-    requires { Fits end × (length held.now ≡ held_max) }
+fn judge(end: End, held: &[u8; HELD]) -> Answer
+    requires { Fits end }
     ensures { JudgedAs (event_of end held.now) result }
 {
     match end {
@@ -392,15 +387,9 @@ pub(crate) fn deliver(answer: Answer, held: &[u8], lent: &mut [u8])
     requires { Small answer × There answer held.now × (lent_least ≤ length lent.old) }
     ensures { lent.new ≡ given answer held.now lent.old }
 {
-    match answer {
-        Answer::Message(h) => {
-            let n = h.len;
-            let end = PAYLOAD_AT + n;
-            lent[..n].copy_from_slice(&held[PAYLOAD_AT..end]);
-        }
-        Answer::Done => {}
-        Answer::Damaged { what: _, lost: _ } => {}
-        Answer::Refused(_) => {}
+    if let Answer::Message(h) = answer {
+        let end = PAYLOAD_AT + h.len;
+        lent[..h.len].copy_from_slice(&held[PAYLOAD_AT..end]);
     }
 }
 
@@ -416,7 +405,8 @@ pub fn step_in_place(
 ) -> StepInPlace
     ensures { IsStepInPlace stage count len held.old piece.now lent.old result held.new lent.new }
 {
-    let whole = (held.len() == HELD) & in_range(stage, count, len);
+    let state = State { stage, count, len };
+    let whole = (held.len() == HELD) & state.in_range();
     if !whole {
         let answer = Answer::Refused(Refusal::Spoilt);
         return StepInPlace {
@@ -437,14 +427,16 @@ pub fn step_in_place(
             used: 0,
         };
     }
-    let ran = run_in(stage, count, len, held, piece);
-    let end = ran.end;
-    let answer = judge(end, &*held);
+    let Some(held) = held.as_mut_array() else {
+        unreachable!()
+    };
+    let ran = run_in(state, held, piece);
+    let answer = judge(ran.end, &*held);
     deliver(answer, &*held, lent);
     StepInPlace {
-        stage: ran.stage,
-        count: ran.count,
-        len: ran.len,
+        stage: ran.state.stage,
+        count: ran.state.count,
+        len: ran.state.len,
         answer,
         used: ran.used,
     }

@@ -5,4 +5,4 @@ use Rattle.fronius.proofs.reader.checksum_of.Goals as goal
 
 pub returns : goal.returns
 unfolding checksum
-returns c = omega (arith, c.total_of.ensures)
+returns c = omega (arith, c.total_of.ensures, c.from.ensures)

@@ -1,36 +1,32 @@
-use lib.ListN.{length-set}
+-- `reader::fill`: each byte copied is one that the machine keeps, so the call goes on from there.
+use Rattle.std.proofs.Common.{◌≡◌, ℕ, ◌+◌, ◌-◌, List, length, take, drop, length-drop, sym, ap, ◌∙◌, arith}
+use Rattle.std.proofs.lemmas.List.{take-append-drop}
+use lib.Seq.{length-take-le}
+use borrow.Rule.Slice.PartMut.{put_mid}
 use Rattle.stream.specs.Pieces.{scan_from}
-use Rattle.stream.proofs.LoopScans.{from_goes}
 use Rattle.fronius.specs.Machine.{filling, next}
-use Rattle.fronius.proofs.MachineMoves.{fill_more}
-use native.Mathlib.Omega.{arith}
-use Prim.Native.Nat.{ℕ, ◌+◌}
-use mathlib.Core.Path.{refl, ◌∙◌, ap}
-use lib.ListN.{get_or, set}
+use Rattle.fronius.proofs.EnteredIsScanned.{stored}
+use Rattle.fronius.proofs.WriterWritesFrame.{put_copied}
 use Rattle.fronius.proofs.reader.fill.Goals as goal
-
-pub loop-i-init : goal.loop-i-init
-loop-i-init c = (omega arith, omega arith, omega arith, refl, refl)
-
-pub loop-i-preserved : goal.loop-i-preserved
-loop-i-preserved c =
-    let l = c.loop-i in
-    let a = c.args in (
-      omega arith,
-      omega arith,
-      omega arith,
-      simp length-set l.invariant.3,
-      l.invariant.4 ∙ from_goes next (filling l.at a.len l.held) (filling (l.at + 1) a.len (set l.held l.at (get_or a.piece.now l.i 0))) a.piece.now l.i (omega arith) (fill_more l.at a.len l.held _ (omega arith)),
-    )
 
 pub returns : goal.returns
 returns c =
-    let l = c.loop-i in
     let a = c.args in
+    let n = c.min-n.result in
+    let k = a.from + n - a.from in
+    let all_n : k ≡ n = omega arith in
+    let behind = drop a.from a.piece.now in
+    let src = take k behind in
+    let size : length src ≡ n = length-take-le k behind (simp length-drop (omega arith)) ∙ all_n in
+    let later = put_mid a.count (a.count + n - a.count) a.held.now c.copy_from_slice.new.self in
+    let put = put_copied a.held.now c.copy_from_slice.new.self src a.count (a.count + n - a.count) (omega (arith, size)) (omega (arith, size)) c.copy_from_slice.ensures.after in
     record {
       forward = omega arith;
       within = omega arith;
       room = omega arith;
-      sized = l.invariant.3;
-      goes = l.invariant.4 ∙ ap (λ (n : ℕ). scan_from next (filling n a.len l.held) a.piece.now l.i) l.invariant.2;
+      goes =
+          stored src (drop k behind) a.count a.len a.held.now a.piece.now a.from (omega (arith, size)) (sym (take-append-drop k behind))
+          ∙ ap (λ (l : List ℕ). scan_from next (filling (a.count + length src) a.len l) a.piece.now (a.from + length src)) (sym put)
+          ∙ ap (λ (x : ℕ). scan_from next (filling (a.count + x) a.len later) a.piece.now (a.from + x)) size
+          ∙ ap (λ (x : ℕ). scan_from next (filling (a.count + x) a.len later) a.piece.now (a.from + n)) (sym all_n);
     }

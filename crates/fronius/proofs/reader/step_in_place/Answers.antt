@@ -1,8 +1,9 @@
 -- `reader::step_in_place`: spoilt, no room, or the scan that `run_in` made, judged and delivered.
-use Rattle.std.proofs.Common.{◌≡◌, ℕ, Bool, true, List, length, refl, sym, ap, ◌∙◌, arith}
+use Rattle.std.proofs.Common.{◌≡◌, ℕ, Bool, true, List, length, refl, sym, ap, ◌∙◌, arith, rules}
 use mathlib.Core.Bool.{◌&&◌}
 use lib.Dec.{eqb}
 use Rattle.stream.specs.Event.{outcome}
+use Rattle.stream.specs.Pieces.{scan}
 use Rattle.stream.proofs.PromiseOfStep.{shows, steps_spoilt, steps_no_room, steps_scan}
 use Rattle.stream.proofs.InPlaceIsStep.{whole_full, whole_sound}
 use Rattle.fronius.specs.Machine.{held_max, holding, next}
@@ -45,15 +46,9 @@ returns-then-lent-lt-LENT c =
     steps_no_room next whole header (λ m. m.payload) shown s a.piece.now a.lent.now (record { reader = s; answer = Refused NoRoom; used = 0 })
     (is_whole (goal.at.returns-then-lent-lt-LENT c).Else-not-whole) (omega arith) refl
 
-pub run_in-ran-requires : goal.run_in-ran-requires
-run_in-ran-requires c = let h = all_there (goal.at.run_in-ran-requires c).Else-not-whole in (h.1, h.0)
-
-pub judge-answer-requires : goal.judge-answer-requires
-judge-answer-requires c = (c.run_in-ran.ensures.fits, c.run_in-ran.ensures.sized ∙ (all_there (goal.at.judge-answer-requires c).Else-not-whole).0)
-
 pub deliver-requires : goal.deliver-requires
 deliver-requires c =
-    let full = c.run_in-ran.ensures.sized ∙ (all_there (goal.at.deliver-requires c).Else-not-whole).0 in
+    let full : length c.run_in-ran.new.held ≡ held_max = search rules in
     let j = judged (goal.at.deliver-requires c).After-judge-answer full in
     (j.0, j.1, omega arith)
 
@@ -61,11 +56,12 @@ pub returns : goal.returns
 returns c =
     let w = (goal.at.returns c).Else-not-whole in
     let r = c.run_in-ran in
-    let full : length r.new.held ≡ held_max = r.ensures.sized ∙ (all_there w).0 in
+    let full : length r.new.held ≡ held_max = search rules in
     let a = c.args in
-    let after = holding r.result.stage r.result.count r.result.len r.new.held in
+    let after = holding r.result.state.stage r.result.state.count r.result.state.len r.new.held in
     let said = c.judge-answer.result in
-    steps_scan next whole header (λ m. m.payload) shown (holding a.stage a.count a.len a.held.now) a.piece.now a.lent.now _ (record { reader = after; answer = said; used = r.result.used }) _ (is_whole w) (omega arith) r.ensures.scanned
+    steps_scan next whole header (λ m. m.payload) shown (holding a.stage a.count a.len a.held.now) a.piece.now a.lent.now _ (record { reader = after; answer = said; used = r.result.used }) _ (is_whole w) (omega arith)
+    (ap (λ (l : List ℕ). scan next (holding a.stage a.count a.len l) a.piece.now) (sym c.in-Some.ensures.cases.same) ∙ r.ensures.scanned)
     (shows header after (number said) (told said) (outcome (event_of r.result.end r.new.held)) r.result.used (number_told said) c.judge-answer.ensures)
     (c.deliver.ensures ∙ (judged (goal.at.returns c).After-judge-answer full).2)
     (whole_full (λ (t : Reader). t.held) held_max in_range after full ∙ r.ensures.ranged)

@@ -25,7 +25,7 @@ judged c =
     let s = c.args.slice.now in
     let k = c.args.at in
     let n = get_or s k 0 in
-    delivers_frame n (get_or s (k + 1 + (3 + n)) 0) (held s k) c.args.lent.now c.judge_frame-answer.result (omega arith) (room s k n (omega arith) (omega arith)) c.judge_frame-answer.ensures
+    delivers_frame n (get_or s (k + 1 + (3 + n)) 0) (held s k) c.args.lent.now c.judge_frame-answer.result (omega arith) (room s k n (omega arith) (omega arith)) (rw c.from-len.ensures at c.judge_frame-answer.ensures)
 
 pub returns-then-slice-at : goal.returns-then-slice-at
 returns-then-slice-at c = answers_end c.args.slice.now c.args.at c.args.lent.now c.used_up.result c.used_up.ensures (omega arith)
@@ -37,9 +37,6 @@ pub returns-then-slice-held : goal.returns-then-slice-held
 returns-then-slice-held c =
     answers_cut_off c.args.slice.now c.args.at c.args.lent.now c.used_up-then-slice-held.result c.used_up-then-slice-held.ensures (omega arith) (omega arith) (omega arith)
 
-pub judge_frame-answer-requires : goal.judge_frame-answer-requires
-judge_frame-answer-requires c = (omega arith, room c.args.slice.now c.args.at (get_or c.args.slice.now c.args.at 0) (omega arith) (omega arith))
-
 pub deliver-requires : goal.deliver-requires
 deliver-requires c =
     let j = judged (goal.at.deliver-requires c).After-judge_frame-answer in
@@ -49,4 +46,4 @@ pub returns : goal.returns
 returns c =
     let s = c.args.slice.now in
     let k = c.args.at in
-    answers_frame s k c.args.lent.now (held s k) _ c.judge_frame-answer.result (omega arith) (omega arith) (omega arith) (all_held s k) c.judge_frame-answer.ensures c.deliver.ensures
+    rw c.from-len.ensures (answers_frame s k c.args.lent.now (held s k) _ c.judge_frame-answer.result (omega arith) (omega arith) (omega arith) (all_held s k) (rw c.from-len.ensures at c.judge_frame-answer.ensures) c.deliver.ensures)
