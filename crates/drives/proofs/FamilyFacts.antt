@@ -1,5 +1,6 @@
 -- The facts that drives show.
 -- Assumes nothing.
+use Rattle.std.specs.Prelude.{Ok, Err}
 use Prim.Native.Nat.{ℕ}
 use mathlib.Core.Path.{◌≡◌, refl, ap}
 use mathlib.Core.Bool.{Bool, true, false}
@@ -11,8 +12,7 @@ use Rattle.numbers.proofs.Alike.{zero_is_one}
 use Rattle.answers.specs.Refusal.{refused}
 use Rattle.answers.specs.Written.{told, length_of, writing}
 use Rattle.answers.specs.declared.Refusal.TheVariants.{WrongCharacter}
-use Rattle.answers.specs.declared.Written.{Written}
-use Rattle.answers.specs.declared.Written.TheVariants.{Done, Refused}
+use Rattle.answers.specs.Written.{Written}
 use Rattle.answers.proofs.WriterPromise.{writes_frame, writes_nothing}
 use Rattle.stream.proofs.PromiseOfStep.{steps_seen, steps_keeps}
 use Rattle.stream.proofs.FamilyFacts.{Facts}
@@ -31,8 +31,8 @@ use Rattle.drives.proofs.AcceptedIsWritten.{borne_out}
 -- ---- the writer: but for a character outside its set, the promise is that of every writer
 
 refused_none : {A : Type 0} (w : Written) (n : ℕ) → told w ≡ refused 1 WrongCharacter → length_of w ≡ some n → A
-refused_none (Done k) n e l = zero_is_one cc
-refused_none (Refused why) n e l = zero_is_one cc
+refused_none (Ok k) n e l = zero_is_one cc
+refused_none (Err why) n e l = zero_is_one cc
 
 pub writes : (m : Message) (lent later : List ℕ) (w : Written) (n : ℕ) → WritesMessage m lent w later → length_of w ≡ some n
     → (take n later ≡ wire m) × (n ≡ length (wire m))

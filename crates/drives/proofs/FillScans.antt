@@ -1,9 +1,9 @@
 -- Characters taken into a frame.
 -- Assumes nothing.
 use Prim.Native.Nat.{ℕ, ◌+◌, ◌-◌, ◌≤◌, ◌<◌}
-use mathlib.Core.Path.{◌≡◌, refl, sym, ap, ◌∙◌}
+use mathlib.Core.Path.{◌≡◌, sym, ap, ◌∙◌}
 use mathlib.Core.List.{List}
-use lib.ListN.{length, get_or, set, length-set}
+use lib.ListN.{length, get_or, set}
 use native.Mathlib.Omega.{arith}
 use Rattle.stream.specs.Pieces.{scan_from}
 use Rattle.stream.proofs.LoopScans.{from_goes}
@@ -20,7 +20,6 @@ filled_none c h p i hi hc =
       forward = omega arith;
       within = hi;
       room = omega arith;
-      sized = refl;
       goes = λ o n. ap (λ (x : ℕ). scan_from next (inside o x h) p i) e;
     }
 
@@ -33,7 +32,6 @@ filled_more c h p i at j k e f hj hc q =
       forward = omega (arith, f.forward);
       within = omega arith;
       room = omega (arith, f.forward);
-      sized = length-set k at (get_or p j 0) ∙ f.sized;
       goes = λ o n.
           f.goes o n
           ∙ ap (λ (x : ℕ). scan_from next (inside o x k) p j) (sym e)

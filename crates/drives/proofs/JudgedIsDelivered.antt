@@ -1,5 +1,6 @@
 -- What an answer tells by its number, and what a judged frame tells and delivers.
 -- Assumes nothing.
+use Rattle.std.specs.Prelude.{Option as Maybe, None, Some}
 use Prim.Native.Nat.{ℕ, min, ◌+◌, ◌-◌, ◌≤◌, ◌<◌}
 use mathlib.Core.Path.{◌≡◌, refl, sym, ap, ◌∙◌, subst}
 use mathlib.Core.Bool.{Bool, true, false}
@@ -24,8 +25,7 @@ use Rattle.drives.specs.Inside.{event_of, JudgedAs, Small, There, given}
 use Rattle.drives.specs.declared.reader.Header.{Header}
 use Rattle.drives.specs.declared.reader.Answer.{Answer}
 use Rattle.drives.specs.declared.reader.Answer.TheVariants.{Done, Message as Read, Damaged, Refused}
-use Rattle.drives.specs.declared.reader.End.{End}
-use Rattle.drives.specs.declared.reader.End.TheVariants.{UsedUp, Closed}
+use Rattle.drives.specs.declared.reader.Closed.{Closed}
 use Rattle.drives.proofs.FrameLimits.{sized_bounds}
 
 -- an answer's number is that of what it tells
@@ -140,6 +140,6 @@ pub frame_delivers : (opening count : ℕ) (held lent : List ℕ) (a : Answer) �
     → AnswerDelivers held lent a (some (closed opening count held))
 frame_delivers opening count held lent a l j = answers held lent a (some (closed opening count held)) j (frame_hands_over opening count held lent l)
 
-pub end_delivers : (end : End) (held lent : List ℕ) (a : Answer) → length held ≡ held_max → JudgedAs (event_of end held) a → AnswerDelivers held lent a (event_of end held)
-end_delivers UsedUp held lent a l j = answers held lent a none j (tt, (tt, refl))
-end_delivers (Closed opening count) held lent a l j = frame_delivers opening count held lent a (omega arith) j
+pub end_delivers : (end : Maybe Closed) (held lent : List ℕ) (a : Answer) → length held ≡ held_max → JudgedAs (event_of end held) a → AnswerDelivers held lent a (event_of end held)
+end_delivers None held lent a l j = answers held lent a none j (tt, (tt, refl))
+end_delivers (Some end) held lent a l j = frame_delivers end.opening end.count held lent a (omega arith) j

@@ -3,6 +3,7 @@ pub mod MachineMoves
 pub mod StageRanges
 pub mod FrameLimits
 pub mod FoundAtEot
+pub mod Searches
 pub mod FillScans
 pub mod JudgedIsDelivered
 pub mod WriterWritesFrame

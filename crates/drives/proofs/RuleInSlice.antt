@@ -1,72 +1,114 @@
--- The rule over the bytes of a slice, from an index on: one byte more, the byte that opens a frame, the EOT that ends it, and the end of the slice.
+-- The rule over the bytes of a slice: by the first opening byte, and the first EOT behind it.
 -- Assumes nothing.
-use Prim.Native.Nat.{ℕ, min, ◌+◌, ◌-◌, ◌≤◌, ◌<◌}
-use mathlib.Core.Path.{◌≡◌, sym, ap, ap₂, ◌∙◌}
-use mathlib.Core.Bool.{true, false}
+use Rattle.std.specs.Prelude.{Option as Maybe, None, Some}
+use Rattle.std.specs.List.{position, position_or_len}
+use Prim.Native.Nat.{ℕ, min, ◌+◌, ◌-◌, ◌<◌}
+use mathlib.Core.Path.{◌≡◌, sym, ap, ap₂, ◌∙◌, subst}
 use mathlib.Core.Option.{none, some}
-use mathlib.Core.List.{List, [], ◌∷◌, ◌++◌}
-use lib.ListN.{length, take, drop, get_or, length-drop, drop_of_length-le}
-use lib.Seq.{drop-cons, get_or-drop, take-suc, take_all}
-use borrow.Author.Tests.{eq-eqb, ne_eqb}
+use mathlib.Core.List.{List, ◌∷◌, ◌++◌}
+use lib.ListN.{length, take, drop, get_or, length-drop, take-append-drop}
+use lib.Seq.{drop-cons, drop-drop, get_or-drop, length-take-le, take_all}
+use borrow.Author.Tests.{eqb-true}
 use native.Mathlib.Nat.{lt_of_not-le}
 use native.Mathlib.Decide.{dec_le}
 use native.Mathlib.Numerals.{add-one}
 use native.Mathlib.Omega.{arith}
 use Rattle.drives.specs.Wire.{eot, opens}
-use Rattle.drives.specs.Rules.{judged, frame_length, judge, within, sought, rule}
+use Rattle.drives.specs.Rules.{judged, frame_length, judge, rule}
 use Rattle.drives.specs.Machine.{count_max, closed}
-use Rattle.drives.specs.Inside.{OpeningFrom, EotFrom}
+use Rattle.drives.specs.Demands.{NoOpening, NoEot}
+use Rattle.drives.specs.Inside.{FoundThere}
+use Rattle.drives.proofs.Searches.{some_at, none_at, is_eot, no_opening, no_eot}
+use Rattle.drives.proofs.FoundAtEot.{found_at_eot}
 use Rattle.drives.proofs.MachineFollowsRule.{judged_too_long}
 
-module _ (s : List ℕ) (i : ℕ) where
-  -- ---- before a frame
+-- a list is what stands before an index, what stands there and what stands behind
+parted : (bs : List ℕ) (n : ℕ) → n < length bs → take n bs ++ (get_or bs n 0 ∷ drop (n + 1) bs) ≡ bs
+parted bs n lt = rw (add-one, ← drop-cons bs n 0 lt) (take-append-drop n bs)
 
-  pub sought_passed : (at : ℕ) → i < length s → opens (get_or s i 0) ≡ false → sought at (drop i s) ≡ sought (at + 1) (drop (i + 1) s)
-  unfolding sought
-  sought_passed at lt e = rw (drop-cons s i 0 lt, add-one i, e)
+-- ---- the first frame of these bytes
 
-  pub sought_opened : (at : ℕ) → i < length s → opens (get_or s i 0) ≡ true → sought at (drop i s) ≡ within (at + 1) (get_or s i 0) [] (drop (i + 1) s)
-  unfolding sought
-  sought_opened at lt e = rw (drop-cons s i 0 lt, add-one i, e)
+module _ (bs : List ℕ) where
+  nothing_opens : position opens bs ≡ None → rule tt bs ≡ none
+  nothing_opens e =
+      subst (λ (l : List ℕ). rule tt l ≡ none) (take_all (position_or_len opens bs) bs (none_at opens bs e)) (found_at_eot.nothing (take (position_or_len opens bs) bs) (no_opening bs))
 
-  -- nothing is found in no bytes, in a frame or before one
-  pub sought_ends : (at opening : ℕ) → length s ≤ i → sought at (drop i s) ≡ within (at + 1) opening [] (drop (i + 1) s)
-  unfolding sought within
-  sought_ends at opening le = rw (drop_of_length-le s {i = i} le, drop_of_length-le s {i = i + 1} (omega arith))
+  module _ (n : ℕ) (o : position opens bs ≡ Some n) where
+    abbrev behind : List ℕ
+    behind = drop (n + 1) bs
 
-  -- ---- in a frame
+    passed : NoOpening (take n bs)
+    passed = subst (λ (k : ℕ). NoOpening (take k bs)) (sym (some_at opens bs n o).0) (no_opening bs)
 
-  pub within_ends : (at opening : ℕ) (came : List ℕ) → length s ≤ i → within at opening came (drop i s) ≡ none
-  unfolding within
-  within_ends at opening came le = rw (drop_of_length-le s {i = i} le)
+    never_ends : position is_eot behind ≡ None → rule tt bs ≡ none
+    never_ends e =
+        let at = some_at opens bs n o in
+        let came = take_all (position_or_len is_eot behind) behind (none_at is_eot behind e) in
+        subst (λ (l : List ℕ). rule tt l ≡ none) (ap (λ (c : List ℕ). take n bs ++ (get_or bs n 0 ∷ c)) came ∙ parted bs n at.1)
+        (found_at_eot.unfinished (take n bs) (take (position_or_len is_eot behind) behind) (get_or bs n 0) passed at.2 (no_eot behind))
 
-  pub within_closed : (at opening : ℕ) (came : List ℕ) → i < length s → get_or s i 0 ≡ eot
-      → within at opening came (drop i s) ≡ some (record { event = judge opening came; used = at + 1 })
-  unfolding within
-  within_closed at opening came lt e = rw (drop-cons s i 0 lt, eq-eqb (get_or s i 0) eot e)
+    whole : (m : ℕ) → position is_eot behind ≡ Some m → rule tt bs ≡ some (record { event = judge (get_or bs n 0) (take m behind); used = n + (m + 2) })
+    whole m e =
+        let at = some_at opens bs n o in
+        let end = some_at is_eot behind m e in
+        let came = take m behind in
+        let clear : NoEot came = subst (λ (k : ℕ). NoEot (take k behind)) (sym end.0) (no_eot behind) in
+        let ends : came ++ (eot ∷ drop (m + 1) behind) ≡ behind =
+        ap (λ (b : ℕ). came ++ (b ∷ drop (m + 1) behind)) (sym (eqb-true (get_or behind m 0) eot end.2)) ∙ parted behind m end.1 in
+        let before : length (take n bs) ≡ n = length-take-le n bs (omega (arith, at.1)) in
+        let between : length came ≡ m = length-take-le m behind (omega (arith, end.1)) in
+        sym (ap (rule tt) (ap (λ (c : List ℕ). take n bs ++ (get_or bs n 0 ∷ c)) ends ∙ parted bs n at.1))
+        ∙ found_at_eot.frame (take n bs) came (drop (m + 1) behind) (get_or bs n 0) passed at.2 clear
+        ∙ ap₂ (λ (i j : ℕ). some (record { event = judge (get_or bs n 0) came; used = i + (j + 2) })) before between
 
-  within_kept : (at opening : ℕ) (came : List ℕ) → i < length s → (get_or s i 0 ≡ eot → ⊥)
-      → within at opening came (drop i s) ≡ within (at + 1) opening (came ++ (get_or s i 0 ∷ [])) (drop (i + 1) s)
-  unfolding within
-  within_kept at opening came lt n = rw (drop-cons s i 0 lt, add-one i, ne_eqb (get_or s i 0) eot n)
+-- ---- the first frame of a slice from a place on
 
-  -- the characters from an index on, and the one at i
-  one_more : (from : ℕ) → from ≤ i → i < length s → take (i - from) (drop from s) ++ (get_or s i 0 ∷ []) ≡ take (i + 1 - from) (drop from s)
-  one_more from le lt =
-      let e : i + 1 - from ≡ i - from + 1 = omega arith in
-      let at : from + (i - from) ≡ i = omega arith in
-      let c : get_or (drop from s) (i - from) 0 ≡ get_or s i 0 = get_or-drop from s (i - from) 0 ∙ ap (λ (k : ℕ). get_or s k 0) at in
-      ap (λ (b : ℕ). take (i - from) (drop from s) ++ (b ∷ [])) (sym c)
-      ∙ sym (take-suc (drop from s) (i - from) 0 (omega (arith, length-drop from s)))
-      ∙ ap (λ (k : ℕ). take k (drop from s)) (sym (e ∙ add-one (i - from)))
+module _ (s : List ℕ) where
+  -- the bytes from an index on, as a part of the slice has them
+  from : (k : ℕ) → take (length s - k) (drop k s) ≡ drop k s
+  from k = take_all (length s - k) (drop k s) (omega (arith, length-drop k s))
 
-  pub within_passed : (from at opening : ℕ) → from ≤ i → i < length s → (get_or s i 0 ≡ eot → ⊥)
-      → within (at + (i - from)) opening (take (i - from) (drop from s)) (drop i s)
-      ≡ within (at + (i + 1 - from)) opening (take (i + 1 - from) (drop from s)) (drop (i + 1) s)
-  within_passed from at opening le lt n =
-      let e : at + (i - from) + 1 ≡ at + (i + 1 - from) = omega arith in
-      within_kept (at + (i - from)) opening (take (i - from) (drop from s)) lt n
-      ∙ ap₂ (λ (k : ℕ) (came : List ℕ). within k opening came (drop (i + 1) s)) e (one_more from le lt)
+  module _ (place : ℕ) where
+    pub none_there : position opens (take (length s - place) (drop place s)) ≡ None → rule tt (drop place s) ≡ none
+    none_there e = nothing_opens (drop place s) (ap (position opens) (sym (from place)) ∙ e)
+
+    module _ (n : ℕ) (o : position opens (take (length s - place) (drop place s)) ≡ Some n) where
+      opens_there : position opens (drop place s) ≡ Some n
+      opens_there = ap (position opens) (sym (from place)) ∙ o
+
+      behind_there : drop (n + 1) (drop place s) ≡ drop (place + n + 1) s
+      behind_there =
+          let k : place + (n + 1) ≡ place + n + 1 = omega arith in
+          drop-drop (n + 1) place s ∙ ap (λ (i : ℕ). drop i s) k
+
+      pub opening_within : place + n < length s
+      opening_within = omega (arith, (some_at opens (drop place s) n opens_there).1, length-drop place s)
+
+      ends_there : (r : Maybe ℕ) → position is_eot (take (length s - (place + n + 1)) (drop (place + n + 1) s)) ≡ r → position is_eot (drop (n + 1) (drop place s)) ≡ r
+      ends_there r e = ap (position is_eot) (behind_there ∙ sym (from (place + n + 1))) ∙ e
+
+      pub unfinished_there : position is_eot (take (length s - (place + n + 1)) (drop (place + n + 1) s)) ≡ None → rule tt (drop place s) ≡ none
+      unfinished_there e = never_ends (drop place s) n opens_there (ends_there None e)
+
+      pub found_there : (m : ℕ) → position is_eot (take (length s - (place + n + 1)) (drop (place + n + 1) s)) ≡ Some m
+          → FoundThere s place (record { opening = place + n; eot = place + n + 1 + m })
+      found_there m e =
+          let w = whole (drop place s) n opens_there m (ends_there (Some m) e) in
+          let end = some_at is_eot (drop (n + 1) (drop place s)) m (ends_there (Some m) e) in
+          let left = ap length behind_there in
+          let came : m ≡ place + n + 1 + m - (place + n + 1) = omega arith in
+          let used : n + (m + 2) ≡ place + n + 1 + m + 1 - place = omega arith in
+          let same : take m (drop (n + 1) (drop place s)) ≡ take (place + n + 1 + m - (place + n + 1)) (drop (place + n + 1) s) =
+          ap₂ (λ (k : ℕ) (l : List ℕ). take k l) came behind_there in
+          record {
+            ahead = omega arith;
+            behind = omega arith;
+            inside = omega (arith, end.1, left, length-drop (place + n + 1) s, opening_within);
+            finds =
+                w
+                ∙ ap₂ (λ (b : ℕ) (l : List ℕ). some (record { event = judge b l; used = n + (m + 2) })) (get_or-drop place s n 0) same
+                ∙ ap (λ (k : ℕ). some (record { event = judge (get_or s (place + n) 0) (take (place + n + 1 + m - (place + n + 1)) (drop (place + n + 1) s)); used = k })) used;
+          }
 
 -- ---- a whole frame
 
@@ -79,23 +121,3 @@ whole_judged opening came =
       | yes k ↦ ap (judged opening (frame_length came)) (take_all (min (length came) count_max) came (omega arith))
       | no k ↦ (let lt = lt_of_not-le k in judged_too_long opening (frame_length came) (take (min (length came) count_max) came) came (omega arith))
     ]
-
--- ---- the first frame from a place on, by the two searches
-
-module _ (s : List ℕ) (place first end : ℕ) (opening : OpeningFrom s place first) (ending : EotFrom s (first + 1) end) where
-  -- the characters between
-  abbrev pub between : List ℕ
-  between = take (end - (first + 1)) (drop (first + 1) s)
-
-  reached : rule tt (drop place s) ≡ within (first - place + 1 + (end - (first + 1))) (get_or s first 0) between (drop end s)
-  reached = opening.goes ∙ ending.goes (first - place + 1) (get_or s first 0)
-
-  pub nothing_found : length s ≤ end → rule tt (drop place s) ≡ none
-  nothing_found le = reached ∙ within_ends s end (first - place + 1 + (end - (first + 1))) (get_or s first 0) between le
-
-  pub frame_found : end < length s → rule tt (drop place s) ≡ some (record { event = judge (get_or s first 0) between; used = end + 1 - place })
-  frame_found lt =
-      let n : first - place + 1 + (end - (first + 1)) + 1 ≡ end + 1 - place = omega (arith, opening.forward, ending.forward) in
-      reached
-      ∙ within_closed s end (first - place + 1 + (end - (first + 1))) (get_or s first 0) between lt (ending.ends lt)
-      ∙ ap (λ (k : ℕ). some (record { event = judge (get_or s first 0) between; used = k })) n

@@ -1,5 +1,6 @@
 -- What the writer's stores make of the lent buffer: a frame, and then what was there.
 -- Assumes nothing.
+use Rattle.std.specs.Prelude.{Ok, Err}
 use Prim.Native.Nat.{ℕ, suc, ◌+◌, ◌-◌, ◌≤◌, ◌<◌}
 use mathlib.Core.Path.{◌≡◌, refl, sym, ap, ◌∙◌, subst}
 use mathlib.Core.Bool.{true, false}
@@ -9,7 +10,6 @@ use lib.Seq.{sets, take-append_seam}
 use borrow.Author.Tests.{lt-ltb, le-ltb}
 use native.Mathlib.Omega.{arith}
 use Rattle.answers.specs.Written.{Writes}
-use Rattle.answers.specs.declared.Written.TheVariants.{Done, Refused}
 use Rattle.answers.specs.declared.Refusal.TheVariants.{TooLong, WrongCharacter, NoRoom}
 use Rattle.answers.proofs.WriterPromise.{writes_no_room, writes_done}
 use Rattle.stream.proofs.ListLaws.{sets_append, sets_front}
@@ -31,26 +31,26 @@ head m = lead m.opening m.station_first m.station_second m.letter
 module _ (m : Message) (lent : List ℕ) where
   -- the four ends of the writer
 
-  pub too_long : frame_most m.opening < size m → WritesMessage m lent (Refused TooLong) lent
+  pub too_long : frame_most m.opening < size m → WritesMessage m lent (Err TooLong) lent
   unfolding framing
   too_long h = rw (lt-ltb (frame_most m.opening) (size m) h) (refl, refl)
 
-  pub outside : size m ≤ frame_most m.opening → in_sets m ≡ false → WritesMessage m lent (Refused WrongCharacter) lent
+  pub outside : size m ≤ frame_most m.opening → in_sets m ≡ false → WritesMessage m lent (Err WrongCharacter) lent
   unfolding framing
   outside h e = rw (le-ltb (frame_most m.opening) (size m) h, e) (refl, refl)
 
-  pub no_room : size m ≤ frame_most m.opening → in_sets m ≡ true → length lent < size m → WritesMessage m lent (Refused NoRoom) lent
+  pub no_room : size m ≤ frame_most m.opening → in_sets m ≡ true → length lent < size m → WritesMessage m lent (Err NoRoom) lent
   unfolding framing
   no_room h e r = rw (le-ltb (frame_most m.opening) (size m) h, e) (writes_no_room (wire m) lent (omega (arith, wire_length m)))
 
   pub done : (count : ℕ) (later : List ℕ) → size m ≤ frame_most m.opening → in_sets m ≡ true → size m ≤ length lent → count ≡ size m
-      → later ≡ wire m ++ drop (length (wire m)) lent → WritesMessage m lent (Done count) later
+      → later ≡ wire m ++ drop (length (wire m)) lent → WritesMessage m lent (Ok count) later
   unfolding framing
   done count later h e r is f =
       let all : length (wire m) ≡ count = omega (arith, wire_length m) in
       rw (le-ltb (frame_most m.opening) (size m) h, e)
-      (subst (λ (l : List ℕ). Writes false (wire m) lent (Done count) l) (sym f)
-      (subst (λ (n : ℕ). Writes false (wire m) lent (Done n) (wire m ++ drop (length (wire m)) lent)) all
+      (subst (λ (l : List ℕ). Writes false (wire m) lent (Ok count) l) (sym f)
+      (subst (λ (n : ℕ). Writes false (wire m) lent (Ok n) (wire m ++ drop (length (wire m)) lent)) all
       (writes_done (wire m) lent (omega (arith, wire_length m)))))
 
   -- what is stored before the sum is taken

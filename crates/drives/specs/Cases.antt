@@ -6,7 +6,7 @@ use Rattle.std.proofs.Math.Option.{Option, none, some}
 use Rattle.numbers.specs.Texts.{text}
 use Rattle.answers.specs.Answer.{answer}
 use Rattle.answers.specs.Written.{told}
-use Rattle.answers.specs.declared.Written.{Written}
+use Rattle.answers.specs.Written.{Written}
 use Rattle.stream.specs.Event.{Event, message, damage, Told, gives, number}
 use Rattle.stream.specs.Rule.{Settled}
 use Rattle.stream.specs.Call.{called}

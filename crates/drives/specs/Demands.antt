@@ -2,7 +2,7 @@
 use Rattle.std.specs.Prelude.{ℕ, min, ◌+◌, ◌≡◌, true, false, List, [], ◌∷◌, ◌++◌, length, take}
 use Rattle.std.proofs.Math.Option.{none, some}
 use Rattle.answers.specs.Written.{length_of}
-use Rattle.answers.specs.declared.Written.{Written}
+use Rattle.answers.specs.Written.{Written}
 use Rattle.stream.specs.Event.{damage}
 use Rattle.stream.specs.Call.{seen_by}
 use Rattle.stream.specs.Family.{Family}

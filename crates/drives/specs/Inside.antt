@@ -1,5 +1,5 @@
 -- What the inner functions promise. No public promise cites this file: it need not be read.
-use Rattle.std.specs.Prelude.{ℕ, ◌+◌, ◌-◌, ◌/◌, ◌%◌, ◌≤◌, ◌<◌, ◌≡◌, true, List, [], ◌∷◌, length, take, drop, get_or}
+use Rattle.std.specs.Prelude.{ℕ, ◌+◌, ◌-◌, ◌/◌, ◌%◌, ◌≤◌, ◌<◌, ◌≡◌, true, List, [], ◌∷◌, length, take, drop, get_or, Option as Maybe, None, Some}
 use Rattle.std.proofs.Math.Option.{Option, none, some}
 use Rattle.stream.specs.Event.{Event, gives}
 use Rattle.stream.specs.Event as Event
@@ -8,40 +8,38 @@ use Rattle.stream.specs.Pieces.{scan, scan_from}
 use Rattle.stream.specs.Delivery as Delivery
 use Rattle.stream.specs.Slice as Slice
 use Rattle.drives.specs.Wire.{Message, eot, hex_digit}
-use Rattle.drives.specs.Rules.{judge, within, sought, rule}
+use Rattle.drives.specs.Rules.{judge, rule}
 use Rattle.drives.specs.Machine.{held_max, count_max, holding, inside, in_range, closed, next}
 use Rattle.drives.specs.Reader.{told, header}
 use Rattle.drives.specs.Slice.{shown}
 use Rattle.drives.specs.declared.reader.Header.{Header}
 use Rattle.drives.specs.declared.reader.Answer.{Answer}
 use Rattle.drives.specs.declared.slice.Found.{Found}
+use Rattle.drives.specs.declared.slice.Frame.{Frame}
 use Rattle.drives.specs.declared.reader.Ran.{Ran}
-use Rattle.drives.specs.declared.reader.End.{End}
-use Rattle.drives.specs.declared.reader.End.TheVariants.{UsedUp, Closed}
+use Rattle.drives.specs.declared.reader.Closed.{Closed}
 
 -- `fill`: the bytes from i up to j are taken into the frame, whatever opened it, and the call goes on from there
 pub record Filled (count : ℕ) (held piece : List ℕ) (i j : ℕ) (later : List ℕ) : Type 0 where
   pub forward : i ≤ j
   pub within : j ≤ length piece
   pub room : count + (j - i) ≤ held_max
-  pub sized : length later ≡ length held
   pub goes :
       (opening : ℕ) → (opening ≡ 0 → ⊥)
       → scan_from next (inside opening count held) piece i ≡ scan_from next (inside opening (count + (j - i)) later) piece j
 
 -- the event that the end of a run is
-abbrev pub event_of : End → List ℕ → Option (Event Message)
-event_of UsedUp held = none
-event_of (Closed opening count) held = some (closed opening count held)
+abbrev pub event_of : Maybe Closed → List ℕ → Option (Event Message)
+event_of None held = none
+event_of (Some end) held = some (closed end.opening end.count held)
 
 -- a count that was read is one that a reader counts
-abbrev pub Fits : End → Type 0
-Fits UsedUp = Unit {0}
-Fits (Closed opening count) = count ≤ count_max
+abbrev pub Fits : Maybe Closed → Type 0
+Fits None = Unit {0}
+Fits (Some end) = end.count ≤ count_max
 
 -- `run_in`: the scan of the piece, which ends in a state in range
 pub record Runs (stage count : ℕ) (held piece : List ℕ) (r : Ran) (later : List ℕ) : Type 0 where
-  pub sized : length later ≡ length held
   pub fits : Fits r.end
   pub ranged : in_range r.stage r.count ≡ true
   pub scanned :
@@ -65,17 +63,19 @@ given answer = Delivery.given (λ (h : Header). h.len) 3 (told answer)
 
 -- ---- in a slice
 
--- `opening_from`: the rule is in a frame that the byte at r opens. Where r is the end of the slice no byte is left, so nothing is found in it either
-pub record OpeningFrom (slice : List ℕ) (from r : ℕ) : Type 0 where
-  pub forward : from ≤ r
-  pub fits : r ≤ length slice
-  pub goes : sought 0 (drop from slice) ≡ within (r - from + 1) (get_or slice r 0) [] (drop (r + 1) slice)
+-- `frame_from`: the rule finds the frame that stands there, its characters being those between the two indices
+pub record FoundThere (slice : List ℕ) (place : ℕ) (frame : Frame) : Type 0 where
+  pub ahead : place ≤ frame.opening
+  pub behind : frame.opening < frame.eot
+  pub inside : frame.eot < length slice
+  pub finds :
+      rule tt (drop place slice)
+      ≡ some (record { event = judge (get_or slice frame.opening 0) (take (frame.eot - (frame.opening + 1)) (drop (frame.opening + 1) slice)); used = frame.eot + 1 - place })
 
--- `eot_from`: in a frame, whatever opened it, the bytes up to r are characters; and r is past the slice, or EOT stands there
-pub record EotFrom (slice : List ℕ) (from r : ℕ) : Type 0 where
-  pub forward : from ≤ r
-  pub ends : r < length slice → get_or slice r 0 ≡ eot
-  pub goes : (at opening : ℕ) → within at opening [] (drop from slice) ≡ within (at + (r - from)) opening (take (r - from) (drop from slice)) (drop r slice)
+-- or none, where there is none
+abbrev pub FrameFrom : List ℕ → ℕ → Maybe Frame → Type 0
+FrameFrom slice place None = rule tt (drop place slice) ≡ none
+FrameFrom slice place (Some frame) = FoundThere slice place frame
 
 -- `read_frame`: the answer tells what the frame comes to, and this is the lent buffer afterwards
 abbrev pub FrameRead : (opening : ℕ) → (came lent : List ℕ) → Answer → List ℕ → Type 0

@@ -4,7 +4,7 @@ use Rattle.answers.specs.Answer.{Answer, need}
 use Rattle.answers.specs.Refusal.{refused}
 use Rattle.answers.specs.Written.{told, writing}
 use Rattle.answers.specs.declared.Refusal.TheVariants.{TooLong, WrongCharacter}
-use Rattle.answers.specs.declared.Written.{Written}
+use Rattle.answers.specs.Written.{Written}
 use Rattle.drives.specs.Wire.{Message, opens, proper, frame_least, frame_most, covered, wire}
 
 -- the frame would be longer than one that its opening byte may open

@@ -18,7 +18,6 @@ ghost use Rattle.drives.specs.Inside.{Filled, Fits, Runs, event_of, JudgedAs, Sm
 ghost use Rattle.drives.specs.declared.reader.Answer.TheVariants.{Damaged};
 
 use answers::{Damage, Refusal};
-use numbers::least;
 
 // The limits, named here because the reader's own constants cannot size its own array. Opening byte, station and letter come before the data.
 const HEADER: usize = 4;
@@ -101,7 +100,8 @@ pub struct StepInPlace {
     pub used: usize,
 }
 
-// The stage in which an opening byte is looked for. In a frame the stage is its opening byte.
+// The stage in which an opening byte is looked for. In a frame the stage is its opening byte. It is a number and no enum, since a host may hand over
+// one that is no stage, which is refused with 18 (`in_range`).
 const LOOKING: u8 = 0;
 
 // The number of characters that stands for itself or more: with opening byte and EOT it is 65,535, the most that is told as lost.
@@ -117,6 +117,7 @@ const NAK: u8 = 0x15;
 pub(crate) const EOT: u8 = 0x04;
 
 // Whether a byte opens a frame.
+#[tactic(auto, unfolding(crate::specs::Wire::opens))]
 pub(crate) fn opens(b: u8) -> bool
     ensures { result ≡ opens b }
 {
@@ -124,6 +125,7 @@ pub(crate) fn opens(b: u8) -> bool
 }
 
 // Whether stage and count are in the stage's range.
+#[tactic(auto, unfolding(crate::specs::Machine::in_range))]
 fn in_range(stage: u8, count: usize) -> bool
     ensures { result ≡ in_range stage count }
 {
@@ -152,6 +154,7 @@ enum Move {
 }
 
 // Says what a byte asks in a stage. Beside it only `fill` decides what a byte means.
+#[tactic(auto, unfolding(crate::specs::Machine::advance_of))]
 fn advance(stage: u8, count: usize, b: u8) -> Move
     ensures { result ≡ advance_of stage count b }
 {
@@ -170,47 +173,42 @@ fn advance(stage: u8, count: usize, b: u8) -> Move
     Move::Over
 }
 
-// How a run over a piece ended.
+// A frame at its EOT: its opening byte, and how many characters came behind that.
 #[derive(Clone, Copy)]
-enum End {
-    UsedUp,
-    // at the EOT of a frame with this opening byte, behind which so many characters came
-    Closed { opening: u8, count: usize },
+struct Closed {
+    opening: u8,
+    count: usize,
 }
 
-// What a run hands back beside the held bytes.
+// What a run hands back beside the held bytes. It ends at the EOT of a frame, or where the piece is used up.
 #[derive(Clone, Copy)]
 struct Ran {
     stage: u8,
     count: usize,
     used: usize,
-    end: End,
+    end: Option<Closed>,
 }
 
 // Takes in characters from `from` on while there is room, up to an EOT; gives the index after the last.
-fn fill(count: usize, held: &mut [u8], piece: &[u8], from: usize) -> usize
-    requires { (count ≤ held_max) × (from ≤ length piece.now) × (length held.old ≡ held_max) }
+fn fill(count: usize, held: &mut [u8; HELD], piece: &[u8], from: usize) -> usize
+    requires { (count ≤ held_max) × (from ≤ length piece.now) }
     ensures { Filled count held.old piece.now from result held.new }
 {
-    let stop = from + least(piece.len() - from, HELD - count);
-    let mut at = count;
-    let mut i = from;
-    while i < stop {
-        let b = piece[i];
+    let stop = from + (piece.len() - from).min(HELD - count);
+    for (n, &b) in piece[from..stop].iter().enumerate() {
         if b == EOT {
-            break;
+            return from + n;
         }
-        held[at] = b;
-        at += 1;
-        i += 1;
+        held[count + n] = b;
     }
-    i
+    stop
 }
 
 // The piece, byte by byte, up to an EOT that ends a frame or the end of the piece.
-// It is long because each move has its arm here: a call from an arm would have to lend the whole state.
-fn run_in(stage: u8, count: usize, held: &mut [u8], piece: &[u8]) -> Ran
-    requires { (in_range stage count ≡ true) × (length held.old ≡ held_max) }
+// It is long because each move has its arm here: a call from an arm would have to lend the whole state. It is no `for`, since a turn uses as many
+// bytes as `fill` takes in.
+fn run_in(stage: u8, count: usize, held: &mut [u8; HELD], piece: &[u8]) -> Ran
+    requires { in_range stage count ≡ true }
     ensures { Runs stage count held.old piece.now result held.new }
 {
     let mut stage = stage;
@@ -234,10 +232,10 @@ fn run_in(stage: u8, count: usize, held: &mut [u8], piece: &[u8]) -> Ran
                 i = j;
             }
             Move::Over => {
-                count = least(count + 1, COUNT_MAX);
+                count = (count + 1).min(COUNT_MAX);
             }
             Move::Close => {
-                let end = End::Closed {
+                let closed = Closed {
                     opening: stage,
                     count,
                 };
@@ -245,25 +243,25 @@ fn run_in(stage: u8, count: usize, held: &mut [u8], piece: &[u8]) -> Ran
                     stage: LOOKING,
                     count: 0,
                     used: i,
-                    end,
+                    end: Some(closed),
                 };
             }
         }
     }
-    let end = End::UsedUp;
     Ran {
         stage,
         count,
         used: i,
-        end,
+        end: None,
     }
 }
 
 // Whether a character is 0 to 9 or A to F.
+#[tactic(auto, unfolding(crate::specs::Wire::is_hex))]
 pub(crate) fn is_hex(c: u8) -> bool
     ensures { result ≡ is_hex c }
 {
-    ((0x30 <= c) & (c <= 0x39)) | ((0x41 <= c) & (c <= 0x46))
+    ((b'0' <= c) & (c <= b'9')) | ((b'A' <= c) & (c <= b'F'))
 }
 
 // Whether they all are. Every character is tested, so that 16 are tested at once.
@@ -271,22 +269,22 @@ pub(crate) fn all_hex(s: &[u8]) -> bool
     ensures { result ≡ all_hex s.now }
 {
     let mut good = true;
-    let mut i: usize = 0;
-    while i < s.len() {
-        good = good & is_hex(s[i]);
-        i += 1;
+    for c in s {
+        good &= is_hex(*c);
     }
     good
 }
 
 // Whether a character is R, W, X or Y.
+#[tactic(auto, unfolding(crate::specs::Wire::is_letter))]
 pub(crate) fn is_letter(c: u8) -> bool
     ensures { result ≡ is_letter c }
 {
-    (c == 0x52) | (c == 0x57) | (c == 0x58) | (c == 0x59)
+    matches!(c, b'R' | b'W' | b'X' | b'Y')
 }
 
 // What a frame with this opening byte has at most.
+#[tactic(auto, unfolding(crate::specs::Wire::frame_most))]
 pub(crate) fn frame_most(opening: u8) -> usize
     ensures { result ≡ frame_most opening }
 {
@@ -294,6 +292,7 @@ pub(crate) fn frame_most(opening: u8) -> usize
 }
 
 // Whether a frame may have `n` bytes.
+#[tactic(auto, unfolding(crate::specs::Rules::sized))]
 fn sized(opening: u8, n: usize) -> bool
     ensures { result ≡ sized opening n }
 {
@@ -309,20 +308,19 @@ fn proper(count: usize, held: &[u8]) -> bool
     is_hex(held[0]) & is_hex(held[1]) & is_letter(held[2]) & rest
 }
 
-// The characters added up, modulo 256 at each step, so that 16 are added at once.
+// The characters added up, modulo 256, so that 16 are added at once.
 pub(crate) fn checksum_of(s: &[u8]) -> u8
     ensures { result ≡ checksum s.now }
 {
     let mut sum: u8 = 0;
-    let mut i: usize = 0;
-    while i < s.len() {
-        sum = ((sum as u16 + s[i] as u16) % 256) as u8;
-        i += 1;
+    for c in s {
+        sum = sum.wrapping_add(*c);
     }
     sum
 }
 
 // The character of a number below 16.
+#[tactic(auto, unfolding(crate::specs::Wire::hex_digit))]
 pub(crate) fn digit(n: u8) -> u8
     requires { n < 16 }
     ensures { result ≡ hex_digit n }
@@ -374,13 +372,13 @@ pub(crate) fn judge_frame(opening: u8, count: usize, held: &[u8]) -> Answer
 }
 
 // What the end of a run comes to.
-fn judge(end: End, held: &[u8]) -> Answer
-    requires { Fits end × (length held.now ≡ held_max) }
+fn judge(end: Option<Closed>, held: &[u8; HELD]) -> Answer
+    requires { Fits end }
     ensures { JudgedAs (event_of end held.now) result }
 {
     match end {
-        End::UsedUp => Answer::Done,
-        End::Closed { opening, count } => judge_frame(opening, count, held),
+        Some(closed) => judge_frame(closed.opening, closed.count, held),
+        None => Answer::Done,
     }
 }
 
@@ -389,15 +387,9 @@ pub(crate) fn deliver(answer: Answer, held: &[u8], lent: &mut [u8])
     requires { Small answer × There answer held.now × (lent_least ≤ length lent.old) }
     ensures { lent.new ≡ given answer held.now lent.old }
 {
-    match answer {
-        Answer::Message(h) => {
-            let n = h.len;
-            let end = PAYLOAD_AT + n;
-            lent[..n].copy_from_slice(&held[PAYLOAD_AT..end]);
-        }
-        Answer::Done => {}
-        Answer::Damaged { what: _, lost: _ } => {}
-        Answer::Refused(_) => {}
+    if let Answer::Message(h) = answer {
+        let end = PAYLOAD_AT + h.len;
+        lent[..h.len].copy_from_slice(&held[PAYLOAD_AT..end]);
     }
 }
 
@@ -431,9 +423,11 @@ pub fn step_in_place(
             used: 0,
         };
     }
+    let Some(held) = held.as_mut_array() else {
+        unreachable!()
+    };
     let ran = run_in(stage, count, held, piece);
-    let end = ran.end;
-    let answer = judge(end, &*held);
+    let answer = judge(ran.end, &*held);
     deliver(answer, &*held, lent);
     StepInPlace {
         stage: ran.stage,
@@ -475,10 +469,9 @@ impl Reader {
             stage: s.stage,
             count: s.count,
         };
-        let answer = s.answer;
         Step {
             reader,
-            answer,
+            answer: s.answer,
             used: s.used,
         }
     }

@@ -1,11 +1,7 @@
 -- `reader::fill`: each character taken in is one that the machine keeps, so the call goes on from there.
 use Rattle.drives.specs.Inside.{Filled}
-use Prim.Native.Nat.{◌+◌, ◌-◌, ◌≤◌}
-use mathlib.Core.Path.{◌≡◌}
+use Prim.Native.Nat.{◌+◌}
 use Rattle.drives.proofs.reader.fill.Given as goal
 
-abbrev pub invariant-loop-i : goal.invariant-loop-i
-invariant-loop-i l = (l.i ≤ l.stop) × (l.at ≡ l.count + (l.i - l.from)) × Filled l.count l.initial.held l.piece l.from l.i l.held
-
-abbrev pub decreases-loop-i : goal.decreases-loop-i
-decreases-loop-i l = l.stop - l.i
+abbrev pub invariant-loop-n : goal.invariant-loop-n
+invariant-loop-n l = Filled l.count l.initial.held l.piece l.from (l.from + l.n) l.held

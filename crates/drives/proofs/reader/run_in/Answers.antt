@@ -1,7 +1,6 @@
 use mathlib.Core.Path.{subst}
 use mathlib.Core.Option.{none, some}
 use mathlib.Core.List.{List}
-use lib.ListN.{length-set}
 use Rattle.stream.specs.Event.{Event}
 use Rattle.stream.specs.Pieces.{Called, scan_from}
 use Rattle.stream.proofs.LoopScans.{from_start, from_goes, from_tells, from_end}
@@ -20,7 +19,7 @@ use Rattle.drives.proofs.reader.run_in.Goals as goal
 pub loop-i-init : goal.loop-i-init
 loop-i-init c =
     let a = c.args in
-    (omega arith, range_of a.stage a.count c.requires.0, refl, from_start next (holding a.stage a.count a.held.now) a.piece.now)
+    (omega arith, range_of a.stage a.count c.requires, from_start next (holding a.stage a.count a.held.now) a.piece.now)
 
 -- what a byte's move says of the state before it
 asks : (stage count b : ℕ) (m : Move) → advance_of stage count b ≡ m → Range stage count → Asked stage count b m
@@ -46,7 +45,7 @@ loop-i-preserved-in-Skip c =
     let l = c.loop-i in
     let p = c.args.piece.now in
     let e : advance_of l.stage l.count (get_or p l.i 0) ≡ Skip = sym c.advance-m.ensures ∙ c.in-Skip.is in
-    (omega arith, l.invariant.1, l.invariant.2, again l.stage l.count l.held p l.i Skip e c.loop-i-test.true l.invariant.3 _ refl)
+    (omega arith, l.invariant.1, again l.stage l.count l.held p l.i Skip e c.loop-i-test.true l.invariant.2 _ refl)
 
 pub loop-i-preserved-in-Open : goal.loop-i-preserved-in-Open
 unfolding moved
@@ -55,7 +54,7 @@ loop-i-preserved-in-Open c =
     let p = c.args.piece.now in
     let e : advance_of l.stage l.count (get_or p l.i 0) ≡ Open = sym c.advance-m.ensures ∙ c.in-Open.is in
     let h : Asked l.stage l.count (get_or p l.i 0) Open = asks _ _ _ Open e l.invariant.1 in
-    (omega arith, reads h.2 (omega arith), l.invariant.2, again l.stage l.count l.held p l.i Open e c.loop-i-test.true l.invariant.3 _ refl)
+    (omega arith, reads h.2 (omega arith), again l.stage l.count l.held p l.i Open e c.loop-i-test.true l.invariant.2 _ refl)
 
 pub bounds-held-count : goal.bounds-held-count
 bounds-held-count c =
@@ -79,7 +78,7 @@ fill-j-requires c =
     let p = c.args.piece.now in
     let e : advance_of l.stage l.count (get_or p l.i 0) ≡ Keep = sym c.advance-m.ensures ∙ c.in-Keep.is in
     let h : Asked l.stage l.count (get_or p l.i 0) Keep = asks _ _ _ Keep e l.invariant.1 in
-    (omega arith, omega arith, simp length-set (l.invariant.2 ∙ c.requires.1))
+    (omega arith, omega arith)
 
 pub overflow_sub-count : goal.overflow_sub-count
 overflow_sub-count c = c.fill-j.ensures.forward
@@ -100,8 +99,7 @@ loop-i-preserved-in-Keep c =
     let f = c.fill-j.ensures in (
       f.within,
       reads h.0 (omega (arith, f.room)),
-      f.sized ∙ simp length-set l.invariant.2,
-      sym (f.goes l.stage (not_looking l.stage h.0)) ∙ again l.stage l.count l.held p l.i Keep e c.loop-i-test.true l.invariant.3 _ refl,
+      sym (f.goes l.stage (not_looking l.stage h.0)) ∙ again l.stage l.count l.held p l.i Keep e c.loop-i-test.true l.invariant.2 _ refl,
     )
 
 pub overflow_add-count-in-Over : goal.overflow_add-count-in-Over
@@ -121,8 +119,7 @@ loop-i-preserved c =
     let h : Asked l.stage l.count (get_or p l.i 0) Over = asks _ _ _ Over e l.invariant.1 in (
       omega arith,
       reads h.0 (omega arith),
-      l.invariant.2,
-      again l.stage l.count l.held p l.i Over e c.loop-i-test.true l.invariant.3 _ (ap (λ (n : ℕ). on (inside l.stage n l.held)) (sym c.least-count.ensures)),
+      again l.stage l.count l.held p l.i Over e c.loop-i-test.true l.invariant.2 _ (ap (λ (n : ℕ). on (inside l.stage n l.held)) (sym c.min-count.ensures)),
     )
 
 pub returns-in-Close : goal.returns-in-Close
@@ -132,14 +129,13 @@ returns-in-Close c =
     let p = c.args.piece.now in
     let e : advance_of l.stage l.count (get_or p l.i 0) ≡ Close = sym c.advance-m.ensures ∙ c.in-Close.is in
     let h : Asked l.stage l.count (get_or p l.i 0) Close = asks _ _ _ Close e l.invariant.1 in
-    record { sized = l.invariant.2; fits = h.2; ranged = in_range_lem _ _ (looks refl refl); scanned = tells l.stage l.count l.held p l.i Close e c.loop-i-test.true l.invariant.3 _ _ refl }
+    record { fits = h.2; ranged = in_range_lem _ _ (looks refl refl); scanned = tells l.stage l.count l.held p l.i Close e c.loop-i-test.true l.invariant.2 _ _ refl }
 
 pub returns : goal.returns
 returns c =
     let l = c.loop-i in
     record {
-      sized = l.invariant.2;
       fits = tt;
       ranged = in_range_lem _ _ l.invariant.1;
-      scanned = sym l.invariant.3 ∙ from_end next (holding l.stage l.count l.held) c.args.piece.now l.i c.loop-i-test.false;
+      scanned = sym l.invariant.2 ∙ from_end next (holding l.stage l.count l.held) c.args.piece.now l.i c.loop-i-test.false;
     }

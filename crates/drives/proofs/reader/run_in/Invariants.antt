@@ -9,7 +9,7 @@ use Rattle.drives.proofs.reader.run_in.Given as goal
 
 abbrev pub invariant-loop-i : goal.invariant-loop-i
 invariant-loop-i l =
-    (l.i ≤ length l.piece) × Range l.stage l.count × (length l.held ≡ length l.initial.held)
+    (l.i ≤ length l.piece) × Range l.stage l.count
     × (scan_from next (holding l.stage l.count l.held) l.piece l.i ≡ scan next (holding l.fn.stage l.fn.count l.initial.held) l.piece)
 
 abbrev pub decreases-loop-i : goal.decreases-loop-i

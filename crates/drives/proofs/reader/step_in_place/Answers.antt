@@ -2,6 +2,7 @@
 use mathlib.Core.List.{List}
 use lib.Dec.{eqb}
 use Rattle.stream.specs.Event.{outcome}
+use Rattle.stream.specs.Pieces.{scan}
 use Rattle.stream.proofs.PromiseOfStep.{shows, steps_spoilt, steps_no_room, steps_scan}
 use Rattle.stream.proofs.InPlaceIsStep.{whole_full, whole_sound}
 use Rattle.drives.specs.Machine as Machine
@@ -13,6 +14,7 @@ use Rattle.drives.specs.declared.reader.Answer.TheVariants.{Refused}
 use Rattle.answers.specs.declared.Refusal.TheVariants.{NoRoom, Spoilt}
 use Rattle.drives.proofs.JudgedIsDelivered.{number_told, end_delivers}
 use native.Mathlib.Omega.{arith}
+use Rattle.std.proofs.Common.{rules}
 use Prim.Native.Nat.{ℕ}
 use mathlib.Core.Path.{◌≡◌, refl, sym, ◌∙◌, ap}
 use mathlib.Core.Bool.{Bool, true, ◌&&◌}
@@ -43,20 +45,15 @@ returns-then-lent-lt-LENT c =
 pub run_in-ran-requires : goal.run_in-ran-requires
 run_in-ran-requires c =
     let a = c.args in
-    let h = all_there a.stage a.count a.held.now (tested a.stage a.count a.held.now _ _ c.in_range.ensures c.if-not-whole.false) in
-    (h.1, h.0)
+    (all_there a.stage a.count a.held.now (tested a.stage a.count a.held.now _ _ c.in_range.ensures c.if-not-whole.false)).1
 
 pub judge-answer-requires : goal.judge-answer-requires
-judge-answer-requires c =
-    let a = c.args in
-    let h = all_there a.stage a.count a.held.now (tested a.stage a.count a.held.now _ _ c.in_range.ensures c.if-not-whole.false) in
-    (c.run_in-ran.ensures.fits, c.run_in-ran.ensures.sized ∙ h.0)
+judge-answer-requires c = c.run_in-ran.ensures.fits
 
 pub deliver-requires : goal.deliver-requires
 deliver-requires c =
-    let a = c.args in
-    let h = all_there a.stage a.count a.held.now (tested a.stage a.count a.held.now _ _ c.in_range.ensures c.if-not-whole.false) in
-    let d = end_delivers c.run_in-ran.result.end c.run_in-ran.new.held a.lent.now c.judge-answer.result (c.run_in-ran.ensures.sized ∙ h.0) c.judge-answer.ensures in
+    let full : length c.run_in-ran.new.held ≡ held_max = search rules in
+    let d = end_delivers c.run_in-ran.result.end c.run_in-ran.new.held c.args.lent.now c.judge-answer.result full c.judge-answer.ensures in
     (d.0, d.1, omega (arith, c.if-lent-lt-LENT.false))
 
 pub returns : goal.returns
@@ -65,11 +62,12 @@ returns c =
     let w = tested a.stage a.count a.held.now _ _ c.in_range.ensures c.if-not-whole.false in
     let r = c.run_in-ran.result in
     let held = c.run_in-ran.new.held in
-    let full = c.run_in-ran.ensures.sized ∙ (all_there a.stage a.count a.held.now w).0 in
+    let full : length c.run_in-ran.new.held ≡ held_max = search rules in
     let after = holding r.stage r.count held in
     let answer = c.judge-answer.result in
     steps_scan next whole header (λ m. m.payload) shown (holding a.stage a.count a.held.now) a.piece.now a.lent.now _
-    (record { reader = after; answer = answer; used = r.used }) _ w (omega (arith, c.if-lent-lt-LENT.false)) c.run_in-ran.ensures.scanned
+    (record { reader = after; answer = answer; used = r.used }) _ w (omega (arith, c.if-lent-lt-LENT.false))
+    (ap (λ (l : List ℕ). scan next (holding a.stage a.count l) a.piece.now) (sym c.in-Some.ensures.cases.same) ∙ c.run_in-ran.ensures.scanned)
     (shows header after (number answer) (told answer) (outcome (event_of r.end held)) r.used (number_told answer) c.judge-answer.ensures)
     (c.deliver.ensures ∙ (end_delivers r.end held a.lent.now answer full c.judge-answer.ensures).2)
     (whole_full (λ (t : Reader). t.held) held_max in_range after full ∙ c.run_in-ran.ensures.ranged)

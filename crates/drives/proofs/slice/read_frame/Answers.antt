@@ -28,13 +28,13 @@ handed opening count came lent answer e j =
 pub deliver-requires : goal.deliver-requires
 deliver-requires c =
     let a = c.args in
-    let d = handed a.opening c.least-count.result a.came.now a.lent.now c.judge_frame-answer.result (omega (arith, c.least-count.ensures)) c.judge_frame-answer.ensures in
+    let d = handed a.opening c.min-count.result a.came.now a.lent.now c.judge_frame-answer.result (omega (arith, c.min-count.ensures)) c.judge_frame-answer.ensures in
     (d.0, d.1, c.requires)
 
 pub returns : goal.returns
 returns c =
     let a = c.args in
-    let n : c.least-count.result ≡ min (length a.came.now) count_max = omega (arith, c.least-count.ensures) in (
-      subst (λ (e : Event Message). JudgedAs (some e) c.judge_frame-answer.result) (comes_to a.opening c.least-count.result a.came.now n) c.judge_frame-answer.ensures,
-      c.deliver.ensures ∙ (handed a.opening c.least-count.result a.came.now a.lent.now c.judge_frame-answer.result n c.judge_frame-answer.ensures).2,
+    let n : c.min-count.result ≡ min (length a.came.now) count_max = omega (arith, c.min-count.ensures) in (
+      subst (λ (e : Event Message). JudgedAs (some e) c.judge_frame-answer.result) (comes_to a.opening c.min-count.result a.came.now n) c.judge_frame-answer.ensures,
+      c.deliver.ensures ∙ (handed a.opening c.min-count.result a.came.now a.lent.now c.judge_frame-answer.result n c.judge_frame-answer.ensures).2,
     )
