@@ -1,5 +1,5 @@
 -- Numbers on both sides of a limit: P1 to P12, with document 01's literals on the right; P3 is as document 02, Req 03, corrects it.
-use Rattle.std.specs.Prelude.{ℕ, ◌≡◌, true, false, List, [], ◌∷◌, ◌++◌, replicate, pos, neg_ℤ}
+use Rattle.std.specs.Prelude.{ℕ, ◌≡◌, true, false, Some, None, List, [], ◌∷◌, ◌++◌, replicate, pos, neg_ℤ}
 use Rattle.std.proofs.Math.Option.{Option, none, some}
 use Rattle.std.specs.Float.{fin}
 use Rattle.answers.specs.Answer.{answer}
@@ -80,7 +80,7 @@ cases =
     ∷ case 4 (FroniusRules.rule tt (0x80 ∷ 0x80 ∷ 0x80 ∷ 0x00 ∷ 0x00 ∷ 0x00 ∷ 0x01 ∷ 0x01 ∷ [])) (reads get_version 8)
     -- P5: the frame of a power, and what it reads: 1,234 W, as a double 617 · 2
     ∷ case 5 (FroniusRules.rule tt (0x80 ∷ 0x80 ∷ 0x80 ∷ 0x03 ∷ 0x01 ∷ 0x01 ∷ 0x10 ∷ 0x04 ∷ 0xD2 ∷ 0x00 ∷ 0xEB ∷ [])) (reads power 11)
-    ∷ case 5 (Reading.reading_of 0x01 0x10 (0x04 ∷ 0xD2 ∷ 0x00 ∷ [])) (Reading.tells 0 (some (Power (fin false 617 (pos 1)))))
+    ∷ case 5 (Reading.reading_of 0x01 0x10 (0x04 ∷ 0xD2 ∷ 0x00 ∷ [])) (Reading.tells 0 (Some (Power (fin false 617 (pos 1)))))
     -- P6: 1,234 thousandths, signed and unsigned
     ∷ case 6 (Measured.thousandths_of (0x04 ∷ 0xD2 ∷ 0xFD ∷ []) true) (Measured.tells 0 (pos 1_234))
     ∷ case 6 (Measured.thousandths_of (0x04 ∷ 0xD2 ∷ 0xFD ∷ []) false) (Measured.tells 0 (pos 1_234))
@@ -92,10 +92,10 @@ cases =
     -- P9: exponent 0B: 15, signed, unsigned and as a reading; FC: 16
     ∷ case 9 (Measured.thousandths_of (0x04 ∷ 0xD2 ∷ 0x0B ∷ []) true) (Measured.tells 15 (pos 0))
     ∷ case 9 (Measured.thousandths_of (0x04 ∷ 0xD2 ∷ 0x0B ∷ []) false) (Measured.tells 15 (pos 0))
-    ∷ case 9 (Reading.reading_of 0x01 0x10 (0x04 ∷ 0xD2 ∷ 0x0B ∷ [])) (Reading.tells 15 none)
+    ∷ case 9 (Reading.reading_of 0x01 0x10 (0x04 ∷ 0xD2 ∷ 0x0B ∷ [])) (Reading.tells 15 None)
     ∷ case 9 (Measured.thousandths_of (0x04 ∷ 0xD2 ∷ 0xFC ∷ []) true) (Measured.tells 16 (pos 0))
     ∷ case 9 (Measured.thousandths_of (0x04 ∷ 0xD2 ∷ 0xFC ∷ []) false) (Measured.tells 16 (pos 0))
-    ∷ case 9 (Reading.reading_of 0x01 0x10 (0x04 ∷ 0xD2 ∷ 0xFC ∷ [])) (Reading.tells 16 none)
+    ∷ case 9 (Reading.reading_of 0x01 0x10 (0x04 ∷ 0xD2 ∷ 0xFC ∷ [])) (Reading.tells 16 None)
     -- P10: serial number 1000: waits 0, 10, 6, 4
     ∷ case 10 (EversolarWaits.wait_of 1000 1) (answer 0 (0 ∷ []))
     ∷ case 10 (EversolarWaits.wait_of 1000 2) (answer 0 (10 ∷ []))

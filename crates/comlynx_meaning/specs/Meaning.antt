@@ -1,14 +1,13 @@
 -- What a type byte means with the data beside it (000, 5.2.3), and the parts of an address.
-use Rattle.std.specs.Prelude.{ℕ, ◌+◌, ◌*◌, ◌/◌, ◌%◌, ◌≡◌, Bool, cond, not, ◌&&◌, ◌||◌, List, [], ◌∷◌, length, get_or, eqb, leb}
+use Rattle.std.specs.Prelude.{ℕ, ◌+◌, ◌*◌, ◌/◌, ◌%◌, ◌≡◌, Bool, cond, not, ◌&&◌, ◌||◌, Result, Ok, Err, List, [], ◌∷◌, length, get_or, eqb, leb}
 use Rattle.std.proofs.Math.Option.{Option, none, some}
 use Rattle.answers.specs.Answer.{Answer, answer, need}
 use Rattle.answers.specs.Refusal.{refused_as, refused}
+use Rattle.answers.specs.declared.Refusal.{Refusal}
 use Rattle.answers.specs.declared.Refusal.TheVariants.{WrongAddressOrExponentTooLow, NotForThisCall}
 use Rattle.comlynx_meaning.specs.declared.Meaning.{Meaning}
-use Rattle.comlynx_meaning.specs.declared.Meaning.TheVariants.{Request, Reply, TransmissionError, ApplicationError, Refused}
+use Rattle.comlynx_meaning.specs.declared.Meaning.TheVariants.{Request, Reply, TransmissionError, ApplicationError}
 use Rattle.comlynx_meaning.specs.declared.Address.{Address}
-use Rattle.comlynx_meaning.specs.declared.Addressed.{Addressed}
-use Rattle.comlynx_meaning.specs.declared.Addressed.TheVariants.{Word, Refused as NoWord}
 
 -- ---- the type byte
 
@@ -40,12 +39,16 @@ pub data Said : Type 0 where
 pub data Told : Type 0 where
   tells : ℕ → Option Said → Told
 
-abbrev pub told : Meaning → Told
-told (Request id) = tells 0 (some (request id))
-told (Reply id) = tells 0 (some (reply id))
-told (TransmissionError id code) = tells 0 (some (transmission_error id code))
-told (ApplicationError id code) = tells 0 (some (application_error id code))
-told (Refused why) = refused_as tells none why
+abbrev pub told : Result Meaning Refusal → Told
+told (Ok (Request id)) = tells 0 (some (request id))
+told (Ok (Reply id)) = tells 0 (some (reply id))
+told (Ok (TransmissionError id code)) = tells 0 (some (transmission_error id code))
+told (Ok (ApplicationError id code)) = tells 0 (some (application_error id code))
+told (Err why) = refused_as tells none why
+
+-- the code of an error reply is its one data byte
+abbrev pub code_of : List ℕ → Result ℕ Refusal
+code_of bs = need (eqb (length bs) 1) (Err NotForThisCall) (Ok (get_or bs 0 0))
 
 -- an error reply has one data byte, its code, else 17
 abbrev pub coded : (ℕ → Said) → List ℕ → Told
@@ -64,7 +67,7 @@ meant kind bs =
     (tells 0 (some (request (id_of kind))))))))
 
 -- what `meaning_of` promises
-abbrev pub IsMeaning : ℕ → List ℕ → Meaning → Type 0
+abbrev pub IsMeaning : ℕ → List ℕ → Result Meaning Refusal → Type 0
 IsMeaning kind bs r = told r ≡ meant kind bs
 
 -- ---- an address: network (4 bits), subnet (4 bits), node (8 bits) from the top
@@ -77,9 +80,9 @@ abbrev pub IsAddress : ℕ → Address → Type 0
 IsAddress word r = r ≡ address_of word
 
 -- and back; a network or subnet that has more bits is 16
-abbrev pub told_word : Addressed → Answer
-told_word (Word word) = answer 0 (word ∷ [])
-told_word (NoWord why) = refused 1 why
+abbrev pub told_word : Result ℕ Refusal → Answer
+told_word (Ok word) = answer 0 (word ∷ [])
+told_word (Err why) = refused 1 why
 
 unfoldable pub word_of : Address → Answer
 word_of a =
@@ -87,5 +90,5 @@ word_of a =
     (answer 0 ((a.network * 4096 + a.subnet * 256 + a.node) ∷ []))
 
 -- what `word_of` promises
-abbrev pub IsWord : Address → Addressed → Type 0
+abbrev pub IsWord : Address → Result ℕ Refusal → Type 0
 IsWord a r = told_word r ≡ word_of a

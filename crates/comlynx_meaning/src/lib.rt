@@ -1,13 +1,13 @@
 // What a type byte means with the data beside it, and the parts of an address.
 #![tactic(auto)]
 
-ghost use Rattle.std.specs.Prelude.{◌+◌, ◌*◌, ◌≤◌, ◌≡◌, cond, ◌&&◌, leb};
-ghost use Rattle.comlynx_meaning.specs.Meaning.{told, transmission_error, application_error, coded, IsMeaning, IsAddress, IsWord};
+ghost use Rattle.std.specs.Prelude.{◌≡◌};
+ghost use Rattle.comlynx_meaning.specs.Meaning.{code_of, IsMeaning, IsAddress, IsWord};
 
 use answers::Refusal;
 
 // What a message says.
-#[derive(Clone, Copy)]
+#[derive(Clone, Copy, Debug, PartialEq, Eq)]
 pub enum Meaning {
     // each with its id
     Request(u8),
@@ -15,49 +15,38 @@ pub enum Meaning {
     // each with its id and its code
     TransmissionError(u8, u8),
     ApplicationError(u8, u8),
-    Refused(Refusal),
 }
 
-// An error reply: its code is its one data byte.
-fn error_of(transmission: bool, id: u8, payload: &[u8]) -> Meaning
-    ensures { told result ≡ coded (cond transmission (transmission_error id) (application_error id)) payload.now }
+// The code of an error reply is its one data byte.
+fn code_of(payload: &[u8]) -> Result<u8, Refusal>
+    ensures { result ≡ code_of payload.now }
 {
-    if payload.len() != 1 {
-        return Meaning::Refused(Refusal::NotForThisCall);
+    match payload {
+        [code] => Ok(*code),
+        _ => Err(Refusal::NotForThisCall),
     }
-    let code = payload[0];
-    if transmission {
-        return Meaning::TransmissionError(id, code);
-    }
-    Meaning::ApplicationError(id, code)
 }
 
 // The meaning of any type byte with any data.
-pub fn meaning_of(kind: u8, payload: &[u8]) -> Meaning
+#[tactic(auto, unfolding(crate::specs::Meaning::meant))]
+pub fn meaning_of(kind: u8, payload: &[u8]) -> Result<Meaning, Refusal>
     ensures { IsMeaning kind payload.now result }
 {
     // bits 0 to 4
     let id = kind % 32;
-    // bits 7, 6 and 5
-    let reply = kind / 128 % 2 == 1;
-    let transmission = kind / 64 % 2 == 1;
-    let application = kind / 32 % 2 == 1;
-    let error = transmission | application;
-    let both = transmission & application;
-    if both | (error & !reply) {
-        return Meaning::Refused(Refusal::NotForThisCall);
+    // bits 7, 6 and 5: a reply, a transmission error, an application error
+    match kind / 32 {
+        0b000 => Ok(Meaning::Request(id)),
+        0b100 => Ok(Meaning::Reply(id)),
+        0b110 => Ok(Meaning::TransmissionError(id, code_of(payload)?)),
+        0b101 => Ok(Meaning::ApplicationError(id, code_of(payload)?)),
+        // an error bit in a request, or both error bits
+        _ => Err(Refusal::NotForThisCall),
     }
-    if error {
-        return error_of(transmission, id, payload);
-    }
-    if reply {
-        return Meaning::Reply(id);
-    }
-    Meaning::Request(id)
 }
 
 // An address has 4, 4 and 8 bits. Node 255 is every node.
-#[derive(Clone, Copy)]
+#[derive(Clone, Copy, Debug, PartialEq, Eq)]
 pub struct Address {
     pub network: u8,
     pub subnet: u8,
@@ -65,55 +54,28 @@ pub struct Address {
 }
 
 // The parts of an address as it stands in a header.
+// A function and no `From`, as `word_of` is no `TryFrom`: docs/PROMISES.md names both, each with its law, `address_of_one` and `word_of_one`.
 pub fn address_of(word: u16) -> Address
     ensures { IsAddress word result }
 {
-    let network = (word / 4096) as u8;
-    let subnet = (word / 256 % 16) as u8;
-    let node = (word % 256) as u8;
+    let [nets, node] = word.to_be_bytes();
     Address {
-        network,
-        subnet,
+        network: nets / 16,
+        subnet: nets % 16,
         node,
     }
-}
-
-// What putting an address together came to.
-#[derive(Clone, Copy)]
-pub enum Addressed {
-    // as it stands in a header
-    Word(u16),
-    // a network or a subnet above 15
-    Refused(Refusal),
 }
 
 // The highest number of 4 bits.
 const FOUR_BITS: u8 = 15;
 
-// Whether network and subnet have 4 bits each.
-fn fits(network: u8, subnet: u8) -> bool
-    ensures { result ≡ leb network 15 && leb subnet 15 }
-{
-    (network <= FOUR_BITS) & (subnet <= FOUR_BITS)
-}
-
-// The parts put together.
-fn join(network: u8, subnet: u8, node: u8) -> u16
-    requires { (network ≤ 15) × (subnet ≤ 15) }
-    ensures { result ≡ network * 4096 + subnet * 256 + node }
-{
-    network as u16 * 4096 + subnet as u16 * 256 + node as u16
-}
-
-// An address as it stands in a header, from its parts.
-pub fn word_of(a: Address) -> Addressed
+// An address as it stands in a header, from its parts. A network or a subnet above 15 is refused.
+#[tactic(auto, unfolding(crate::specs::Meaning::word_of))]
+pub fn word_of(a: Address) -> Result<u16, Refusal>
     ensures { IsWord a result }
 {
-    let network = a.network;
-    let subnet = a.subnet;
-    let node = a.node;
-    if !fits(network, subnet) {
-        return Addressed::Refused(Refusal::WrongAddressOrExponentTooLow);
+    if a.network > FOUR_BITS || a.subnet > FOUR_BITS {
+        return Err(Refusal::WrongAddressOrExponentTooLow);
     }
-    Addressed::Word(join(network, subnet, node))
+    Ok(u16::from_be_bytes([a.network * 16 + a.subnet, a.node]))
 }

@@ -1,42 +1,26 @@
 -- For each public call: two results that its promise allows are one.
 -- Assumes nothing.
-use Prim.Native.Nat.{ℕ}
-use mathlib.Core.Path.{◌≡◌, refl, sym, ◌∙◌}
-use mathlib.Core.List.{List, [], ◌∷◌}
-use lib.ListN.{get_or}
+use Rattle.std.proofs.Common.{◌≡◌, ℕ, List, [], ◌∷◌, Result, Ok, Err, get_or, refl, sym, ◌∙◌}
 use Rattle.numbers.proofs.Alike.{alike_by_back}
 use Rattle.answers.proofs.NumbersHaveCases.{heard, heard_refused}
-use Rattle.eversolar_meaning.specs.Energy as Energy
+use Rattle.answers.specs.declared.Refusal.{Refusal}
+use Rattle.eversolar_meaning.specs.Told.{told}
 use Rattle.eversolar_meaning.specs.Energy.{IsEnergy}
-use Rattle.eversolar_meaning.specs.Waits as Waits
 use Rattle.eversolar_meaning.specs.Waits.{IsWait}
-use Rattle.eversolar_meaning.specs.declared.energy.Energy.{Energy}
-use Rattle.eversolar_meaning.specs.declared.energy.Energy.TheVariants.{Tenths, Refused as NoEnergy}
-use Rattle.eversolar_meaning.specs.declared.waits.Wait.{Wait}
-use Rattle.eversolar_meaning.specs.declared.waits.Wait.TheVariants.{Intervals, Refused as NoWait}
 
-energy_alike : (a b : Energy) → Energy.told a ≡ Energy.told b → a ≡ b
-energy_alike = alike_by_back Energy.told (heard done NoEnergy) there
+told_alike : (a b : Result ℕ Refusal) → told a ≡ told b → a ≡ b
+told_alike = alike_by_back told (heard done Err) there
   where
-    done : List ℕ → Energy
-    done others = Tenths (get_or others 0 0)
+    done : List ℕ → Result ℕ Refusal
+    done others = Ok (get_or others 0 0)
 
-    there : (a : Energy) → heard done NoEnergy (Energy.told a) ≡ a
-    there (Tenths n) = refl
-    there (NoEnergy why) = heard_refused done NoEnergy (0 ∷ []) why
+    there : (a : Result ℕ Refusal) → heard done Err (told a) ≡ a
+    there (Ok n) = refl
+    there (Err why) = heard_refused done Err (0 ∷ []) why
 
-pub total_energy_one : (control function : ℕ) (payload : List ℕ) (a b : Energy) → IsEnergy control function payload a → IsEnergy control function payload b → a ≡ b
-total_energy_one control function payload a b x y = energy_alike a b (x ∙ sym y)
+pub total_energy_one : (control function : ℕ) (payload : List ℕ) (a b : Result ℕ Refusal)
+    → IsEnergy control function payload a → IsEnergy control function payload b → a ≡ b
+total_energy_one control function payload a b x y = told_alike a b (x ∙ sym y)
 
-wait_alike : (a b : Wait) → Waits.told a ≡ Waits.told b → a ≡ b
-wait_alike = alike_by_back Waits.told (heard done NoWait) there
-  where
-    done : List ℕ → Wait
-    done others = Intervals (get_or others 0 0)
-
-    there : (a : Wait) → heard done NoWait (Waits.told a) ≡ a
-    there (Intervals n) = refl
-    there (NoWait why) = heard_refused done NoWait (0 ∷ []) why
-
-pub wait_of_one : (serial attempt : ℕ) (a b : Wait) → IsWait serial attempt a → IsWait serial attempt b → a ≡ b
-wait_of_one serial attempt a b x y = wait_alike a b (x ∙ sym y)
+pub wait_of_one : (serial attempt : ℕ) (a b : Result ℕ Refusal) → IsWait serial attempt a → IsWait serial attempt b → a ≡ b
+wait_of_one serial attempt a b x y = told_alike a b (x ∙ sym y)

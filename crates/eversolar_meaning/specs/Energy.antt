@@ -1,11 +1,11 @@
 -- The total energy of a reply 11/90.
-use Rattle.std.specs.Prelude.{ℕ, ◌+◌, ◌*◌, ◌≡◌, ◌&&◌, List, [], ◌∷◌, length, get_or, eqb, leb}
+use Rattle.std.specs.Prelude.{ℕ, ◌+◌, ◌*◌, ◌≡◌, ◌&&◌, Result, List, [], ◌∷◌, length, get_or, eqb, leb}
 use Rattle.answers.specs.Answer.{Answer, answer, need}
 use Rattle.answers.specs.Refusal.{refused}
+use Rattle.answers.specs.declared.Refusal.{Refusal}
 use Rattle.answers.specs.declared.Refusal.TheVariants.{NotForThisCall}
 use Rattle.eversolar_words.specs.Words.{word}
-use Rattle.eversolar_meaning.specs.declared.energy.Energy.{Energy}
-use Rattle.eversolar_meaning.specs.declared.energy.Energy.TheVariants.{Tenths, Refused}
+use Rattle.eversolar_meaning.specs.Told.{told}
 
 -- item k is the word at data bytes 2k and 2k + 1
 unfoldable pub item : List ℕ → ℕ → ℕ
@@ -17,10 +17,6 @@ energy_of control function payload =
     need (eqb control 0x11 && eqb function 0x90 && leb 44 (length payload)) (refused 1 NotForThisCall)
     (answer 0 ((65536 * item payload 20 + item payload 21) ∷ []))
 
-abbrev pub told : Energy → Answer
-told (Tenths n) = answer 0 (n ∷ [])
-told (Refused why) = refused 1 why
-
 -- what `total_energy` promises of control, function, data and its result
-abbrev pub IsEnergy : ℕ → ℕ → List ℕ → Energy → Type 0
+abbrev pub IsEnergy : ℕ → ℕ → List ℕ → Result ℕ Refusal → Type 0
 IsEnergy control function payload r = told r ≡ energy_of control function payload

@@ -5,14 +5,6 @@ ghost use Rattle.eversolar_meaning.specs.Energy.{item, IsEnergy};
 use answers::Refusal;
 use eversolar_words::word;
 
-// The energy that an inverter has delivered in all.
-#[derive(Clone, Copy)]
-pub enum Energy {
-    // in tenths of a kWh
-    Tenths(u32),
-    Refused(Refusal),
-}
-
 // What a reply with the total energy says of itself.
 const CONTROL: u8 = 0x11;
 
@@ -27,6 +19,7 @@ const LOW: usize = 21;
 const LEAST: usize = 2 * (LOW + 1);
 
 // Data item `k`, a word.
+#[tactic(auto, unfolding(crate::specs::Energy::item))]
 fn item(payload: &[u8], k: usize) -> u16
     requires { (2 * k + 1 < length payload.now) × (k ≤ 127) }
     ensures { result ≡ item payload.now k }
@@ -34,20 +27,15 @@ fn item(payload: &[u8], k: usize) -> u16
     word(payload[2 * k], payload[2 * k + 1])
 }
 
-// The total energy that a reply of this control and function tells.
-pub fn total_energy(control: u8, function: u8, payload: &[u8]) -> Energy
+// The energy that an inverter has delivered in all, in tenths of a kWh, from a reply of this control and function.
+#[tactic(auto, unfolding(crate::specs::Energy::energy_of))]
+pub fn total_energy(control: u8, function: u8, payload: &[u8]) -> Result<u32, Refusal>
     ensures { IsEnergy control function payload.now result }
 {
-    if control != CONTROL {
-        return Energy::Refused(Refusal::NotForThisCall);
-    }
-    if function != FUNCTION {
-        return Energy::Refused(Refusal::NotForThisCall);
-    }
-    if payload.len() < LEAST {
-        return Energy::Refused(Refusal::NotForThisCall);
+    if control != CONTROL || function != FUNCTION || payload.len() < LEAST {
+        return Err(Refusal::NotForThisCall);
     }
     let high = item(payload, HIGH);
     let low = item(payload, LOW);
-    Energy::Tenths(65536 * (high as u32) + low as u32)
+    Ok(65536 * (high as u32) + low as u32)
 }

@@ -4,5 +4,5 @@
 pub mod energy;
 pub mod waits;
 
-pub use energy::{Energy, total_energy};
-pub use waits::{Wait, wait_of};
+pub use energy::total_energy;
+pub use waits::wait_of;

@@ -6,7 +6,6 @@ use native.Mathlib.Omega.{arith}
 use mathlib.Core.Path.{◌≡◌, refl, sym, ◌∙◌, ap, subst}
 use mathlib.Core.Bool.{Bool, true, false, ◌&&◌}
 use mathlib.Core.List.{List}
-use mathlib.Core.Option.{Option, none, some}
 use lib.Dec.{lit<, eqb}
 use lib.Pow.{pow_pos, pow-add}
 use lib.IntN.{ℤ, pos, negsuc, neg_ℤ, nat_abs, ◌*ℤ◌}
@@ -28,7 +27,7 @@ use Rattle.fronius_meaning.specs.Measured.{word_of, exponent_byte, exponent_of, 
 use Rattle.fronius_meaning.specs.Reading as Reading
 use Rattle.fronius_meaning.specs.Reading.{kind_of, is_kind, carried, double_of, reading_of, IsReading, is_power, is_energy, is_current, is_voltage, is_frequency, is_minutes, is_money}
 use Rattle.fronius_meaning.specs.declared.reading.Reading.{Reading}
-use Rattle.fronius_meaning.specs.declared.reading.Read.TheVariants.{Value}
+use Rattle.std.proofs.Common.{Option, Some, None, Ok}
 use Rattle.fronius_meaning.specs.Demands.{ThousandthsExact, DoubleExact, DoublesInUnits, Nearest, DoubleNearest, OneNumber, double_in}
 use Rattle.fronius_meaning.proofs.ValueBounds.{exact, ten_le}
 use Rattle.fronius_meaning.proofs.TestsInOrder.{no_refusal}
@@ -113,7 +112,7 @@ measured_tells t why e =
     let z : 0 ≡ Refusal.number why = cc in
     omega (arith, refusal_above why)
 
-reading_tells : (r : Reading) (why : Refusal) → Reading.tells 0 (some r) ≡ refused_as Reading.tells none why → ⊥
+reading_tells : (r : Reading) (why : Refusal) → Reading.tells 0 (Some r) ≡ refused_as Reading.tells None why → ⊥
 reading_tells r why e =
     let z : 0 ≡ Refusal.number why = cc in
     omega (arith, refusal_above why)
@@ -123,14 +122,14 @@ told_number e = cc
 
 -- a reading that was given is the one of the rule
 given_one : (s : List ℕ) (r : Reading) (x : Option Reading) (asked : Bool)
-    → Reading.tells 0 (some r) ≡ need asked (refused_as Reading.tells none NotForThisCall) (tested s (refused_as Reading.tells none) (Reading.tells 0 x)) → x ≡ some r
+    → Reading.tells 0 (Some r) ≡ need asked (refused_as Reading.tells None NotForThisCall) (tested s (refused_as Reading.tells None) (Reading.tells 0 x)) → x ≡ Some r
 given_one s r x true h =
-    let p : Reading.tells 0 (some r) ≡ Reading.tells 0 x = (no_refusal s (refused_as Reading.tells none) (Reading.tells 0 x) (Reading.tells 0 (some r)) (reading_tells r) h).0 in
+    let p : Reading.tells 0 (Some r) ≡ Reading.tells 0 x = (no_refusal s (refused_as Reading.tells None) (Reading.tells 0 x) (Reading.tells 0 (Some r)) (reading_tells r) h).0 in
     cc
 given_one s r x false h = absurd (reading_tells r NotForThisCall h)
 
-given : (device command : ℕ) (s : List ℕ) (r : Reading) → IsReading device command s (Value r)
-    → carried (kind_of command) (double_of (word_of s) (exponent_of (exponent_byte s))) ≡ some r
+given : (device command : ℕ) (s : List ℕ) (r : Reading) → IsReading device command s (Ok r)
+    → carried (kind_of command) (double_of (word_of s) (exponent_of (exponent_byte s))) ≡ Some r
 unfolding reading_of
 given device command s r h =
     given_one s r (carried (kind_of command) (double_of (word_of s) (exponent_of (exponent_byte s)))) (eqb device 1 && is_kind (kind_of command)) h

@@ -1,4 +1,3 @@
-mod PowersOfTen
 mod ValueBounds
 mod TestsInOrder
 mod CommandChain

@@ -1,14 +1,12 @@
 -- What the numbers of a measured value and of a reading are (`negsuc n` is -(n + 1)).
-use Rattle.std.specs.Prelude.{ℕ, suc, ◌+◌, ◌-◌, ◌*◌, ◌^◌, ◌<◌, ◌≤◌, ◌≡◌, false, List, ℤ, pos, negsuc, nat_abs, ◌*ℤ◌, get_or, ◌≤ℤ◌, T, Float}
+use Rattle.std.specs.Prelude.{ℕ, suc, ◌+◌, ◌-◌, ◌*◌, ◌^◌, ◌<◌, ◌≤◌, ◌≡◌, false, Ok, List, ℤ, pos, negsuc, nat_abs, ◌*ℤ◌, get_or, ◌≤ℤ◌, T, Float}
 use Rattle.std.specs.Float.{fin, binary64}
 use Rattle.std.specs.Float.Ieee.{low, fits, round}
 use Rattle.std.specs.Float.Ieee.Exact.{HasValue}
 use Rattle.fronius_meaning.specs.Measured.{exponent_byte, exponent_of, in_thousandths, IsThousandths}
 use Rattle.fronius_meaning.specs.Reading.{double_of, IsReading}
-use Rattle.fronius_meaning.specs.declared.measured.Measured.TheVariants.{Thousandths}
 use Rattle.fronius_meaning.specs.declared.reading.Reading.{Reading}
 use Rattle.fronius_meaning.specs.declared.reading.Reading.TheVariants.{Power, Energy, Voltage, Current, Frequency, Minutes, Money}
-use Rattle.fronius_meaning.specs.declared.reading.Read.TheVariants.{Value}
 
 -- The thousandths are exact: value times ten to the exponent, a thousand times; for an exponent below 0 nothing is cut off.
 abbrev pub ThousandthsExact : Type 0
@@ -56,7 +54,7 @@ abbrev pub OneNumber : Type 0
 OneNumber =
     (device command : ℕ) (s : List ℕ) (r : Reading) (t : ℤ)
     → ((k : ℕ) → get_or s k 0 < 256)
-    → IsReading device command s (Value r)
-    → IsThousandths s false (Thousandths t)
+    → IsReading device command s (Ok r)
+    → IsThousandths s false (Ok t)
     → (double_in r ≡ round binary64 false (nat_abs t) 1_000)
     × (pos 0 ≤ℤ exponent_of (exponent_byte s) → HasValue (double_in r) false (nat_abs t) 1_000)

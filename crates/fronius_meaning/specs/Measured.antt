@@ -1,12 +1,11 @@
 -- A measured value, in whole thousandths.
-use Rattle.std.specs.Prelude.{ℕ, ◌+◌, ◌*◌, ◌^◌, ◌≡◌, Bool, true, false, not, cond, List, ltb, eqb, ℤ, pos, neg_ℤ, nat_abs, ◌+ℤ◌, ◌-ℤ◌, ◌*ℤ◌, length, get_or}
+use Rattle.std.specs.Prelude.{ℕ, ◌+◌, ◌*◌, ◌^◌, ◌≡◌, Bool, true, false, not, cond, Result, Ok, Err, List, ltb, eqb, ℤ, pos, neg_ℤ, nat_abs, ◌+ℤ◌, ◌-ℤ◌, ◌*ℤ◌, length, get_or}
 use Rattle.std.specs.Int.Signed.{lt_z}
 use Rattle.answers.specs.Answer.{need}
 use Rattle.answers.specs.Refusal.{refused_as}
 use Rattle.answers.specs.declared.Refusal.{Refusal}
 use Rattle.answers.specs.declared.Refusal.TheVariants.{ExponentTooHigh, WrongAddressOrExponentTooLow, NotForThisCall}
-use Rattle.fronius_meaning.specs.declared.measured.Measured.{Measured}
-use Rattle.fronius_meaning.specs.declared.measured.Measured.TheVariants.{Thousandths, Refused}
+use Rattle.fronius_meaning.specs.declared.measured.Parts.{Parts}
 
 -- A measured value is three data bytes: high, low, exponent.
 abbrev pub word_of : List ℕ → ℕ
@@ -53,18 +52,22 @@ tested s refused given =
     (need (not (too_small e)) (refused WrongAddressOrExponentTooLow)
     given))
 
+-- the bytes of a measured value that none of the tests refuses
+abbrev pub parts_of : List ℕ → Result Parts Refusal
+parts_of s = tested s Err (Ok (record { word = word_of s; exponent = exponent_of (exponent_byte s) }))
+
 -- the answer number and the thousandths; with a refusal 0 of them
 pub data Told : Type 0 where
   tells : ℕ → ℤ → Told
 
-abbrev pub told : Measured → Told
-told (Thousandths t) = tells 0 t
-told (Refused why) = refused_as tells (pos 0) why
+abbrev pub told : Result ℤ Refusal → Told
+told (Ok t) = tells 0 t
+told (Err why) = refused_as tells (pos 0) why
 
 unfoldable pub thousandths_of : List ℕ → Bool → Told
 thousandths_of s signed =
     tested s (refused_as tells (pos 0)) (tells 0 (in_thousandths (value_of signed (word_of s)) (exponent_of (exponent_byte s))))
 
 -- what `thousandths` promises
-abbrev pub IsThousandths : List ℕ → Bool → Measured → Type 0
+abbrev pub IsThousandths : List ℕ → Bool → Result ℤ Refusal → Type 0
 IsThousandths s signed r = told r ≡ thousandths_of s signed

@@ -1,16 +1,15 @@
 -- A reading: what its command asks for, as a double.
-use Rattle.std.specs.Prelude.{ℕ, suc, ◌*◌, ◌^◌, ◌≡◌, Bool, true, false, cond, ◌||◌, ◌&&◌, List, leb, eqb, ℤ, pos, negsuc, Float}
-use Rattle.std.proofs.Math.Option.{Option, none, some}
+use Rattle.std.specs.Prelude.{ℕ, suc, ◌*◌, ◌^◌, ◌≡◌, Bool, true, false, cond, ◌||◌, ◌&&◌, Option, Some, None, Result, Ok, Err, List, leb, eqb, ℤ, pos, negsuc, Float}
 use Rattle.std.specs.Float.{binary64}
 use Rattle.std.specs.Float.Ieee.{of_int, div}
 use Rattle.answers.specs.Answer.{need}
 use Rattle.answers.specs.Refusal.{refused_as}
+use Rattle.answers.specs.declared.Refusal.{Refusal}
 use Rattle.answers.specs.declared.Refusal.TheVariants.{NotForThisCall}
 use Rattle.fronius_meaning.specs.Measured.{word_of, exponent_byte, exponent_of, tested}
 use Rattle.fronius_meaning.specs.declared.reading.Reading.{Reading}
 use Rattle.fronius_meaning.specs.declared.reading.Reading.TheVariants.{Power, Energy, Voltage, Current, Frequency, Minutes, Money}
-use Rattle.fronius_meaning.specs.declared.reading.Read.{Read}
-use Rattle.fronius_meaning.specs.declared.reading.Read.TheVariants.{Value, Refused}
+use Rattle.fronius_meaning.specs.declared.reading.Kind.{Kind}
 
 -- 11 to 13: both are in it
 abbrev pub within : ℕ → ℕ → ℕ → Bool
@@ -47,23 +46,37 @@ is_money c = eqb c 0x19 || eqb c 0x1F
 -- By its command a reading is one of these, and carries a double; another command is none's.
 unfoldable pub kind_of : ℕ → Option (Float → Reading)
 kind_of c =
-    cond (is_power c) (some Power)
-    (cond (is_energy c) (some Energy)
-    (cond (is_current c) (some Current)
-    (cond (is_voltage c) (some Voltage)
-    (cond (is_frequency c) (some Frequency)
-    (cond (is_minutes c) (some Minutes)
-    (cond (is_money c) (some Money)
-    none))))))
+    cond (is_power c) (Some Power)
+    (cond (is_energy c) (Some Energy)
+    (cond (is_current c) (Some Current)
+    (cond (is_voltage c) (Some Voltage)
+    (cond (is_frequency c) (Some Frequency)
+    (cond (is_minutes c) (Some Minutes)
+    (cond (is_money c) (Some Money)
+    None))))))
+
+-- the code's names of the kinds, each as what it makes of a double
+abbrev pub maker : Kind → Float → Reading
+maker Kind.Power = Power
+maker Kind.Energy = Energy
+maker Kind.Voltage = Voltage
+maker Kind.Current = Current
+maker Kind.Frequency = Frequency
+maker Kind.Minutes = Minutes
+maker Kind.Money = Money
+
+abbrev pub makers : Option Kind → Option (Float → Reading)
+makers None = None
+makers (Some kind) = Some (maker kind)
 
 -- whether there is one, and the reading that carries x
 abbrev pub is_kind : Option (Float → Reading) → Bool
-is_kind none = false
-is_kind (some kind) = true
+is_kind None = false
+is_kind (Some kind) = true
 
 abbrev pub carried : Option (Float → Reading) → Float → Option Reading
-carried none x = none
-carried (some kind) x = some (kind x)
+carried None x = None
+carried (Some kind) x = Some (kind x)
 
 -- All unsigned. For exponents 0 to 10 the double is exact; for -1 to -3 it is one division of the two-byte value by 10, 100 or 1,000
 -- (`negsuc n` is -(n + 1)).
@@ -75,18 +88,18 @@ double_of word (negsuc n) = div binary64 (of_int binary64 (pos word)) (of_int bi
 pub data Told : Type 0 where
   tells : ℕ → Option Reading → Told
 
-abbrev pub told : Read → Told
-told (Value r) = tells 0 (some r)
-told (Refused why) = refused_as tells none why
+abbrev pub told : Result Reading Refusal → Told
+told (Ok r) = tells 0 (Some r)
+told (Err why) = refused_as tells None why
 
 -- Another command, or a device other than 01, is 17. Tests: 17, then 15 or 16.
 unfoldable pub reading_of : ℕ → ℕ → List ℕ → Told
 unfolding kind_of
 reading_of device command s =
     let kind = kind_of command in
-    need (eqb device 1 && is_kind kind) (refused_as tells none NotForThisCall)
-    (tested s (refused_as tells none) (tells 0 (carried kind (double_of (word_of s) (exponent_of (exponent_byte s))))))
+    need (eqb device 1 && is_kind kind) (refused_as tells None NotForThisCall)
+    (tested s (refused_as tells None) (tells 0 (carried kind (double_of (word_of s) (exponent_of (exponent_byte s))))))
 
 -- what `reading_of` promises
-abbrev pub IsReading : ℕ → ℕ → List ℕ → Read → Type 0
+abbrev pub IsReading : ℕ → ℕ → List ℕ → Result Reading Refusal → Type 0
 IsReading device command s r = told r ≡ reading_of device command s

@@ -1,17 +1,15 @@
 // A reading: by its command a power, an energy, a voltage, a current, a frequency, minutes or money, as a double.
-ghost use Rattle.std.specs.Prelude.{◌≡◌, true, false, ◌*◌, ◌^◌, ◌<◌, pos};
-ghost use Rattle.std.proofs.Math.Option.{some};
+ghost use Rattle.std.specs.Prelude.{◌≡◌, false, ◌*◌, ◌^◌, ◌<◌, pos};
 ghost use Rattle.std.specs.Float.{binary64};
 ghost use Rattle.std.specs.Float.Ieee.{of_int, div};
-ghost use Rattle.fronius_meaning.specs.Measured.{exponent_of, too_great, too_small};
-ghost use Rattle.fronius_meaning.specs.Reading.{IsReading, is_power, is_energy, is_current, is_voltage, is_frequency, is_minutes, is_money, kind_of, is_kind, carried, double_of};
+ghost use Rattle.fronius_meaning.specs.Measured.{too_great, too_small};
+ghost use Rattle.fronius_meaning.specs.Reading.{IsReading, maker, makers, kind_of, double_of};
 
-use crate::measured::{MINUS, SIZE, ten_to, too_great, too_small};
+use crate::measured::{parts_of, ten_to};
 use answers::Refusal;
-use numbers::word;
 
-// What was measured, in the unit of its kind.
-#[derive(Clone, Copy)]
+// What was measured, in the unit of its kind. Each case carries its double: docs/DECISIONS.md names this form.
+#[derive(Clone, Copy, Debug, PartialEq)]
 pub enum Reading {
     // W
     Power(f64),
@@ -27,138 +25,86 @@ pub enum Reading {
     Money(f64),
 }
 
-// What reading a message came to.
+// Which of them a command measures: asked for before there is a double to carry.
 #[derive(Clone, Copy)]
-pub enum Read {
-    Value(Reading),
-    Refused(Refusal),
+enum Kind {
+    Power,
+    Energy,
+    Voltage,
+    Current,
+    Frequency,
+    Minutes,
+    Money,
+}
+
+impl Kind {
+    // The reading of this kind that carries x.
+    fn reading(self, x: f64) -> Reading
+        ensures { result ≡ maker self x }
+    {
+        match self {
+            Kind::Power => Reading::Power(x),
+            Kind::Energy => Reading::Energy(x),
+            Kind::Voltage => Reading::Voltage(x),
+            Kind::Current => Reading::Current(x),
+            Kind::Frequency => Reading::Frequency(x),
+            Kind::Minutes => Reading::Minutes(x),
+            Kind::Money => Reading::Money(x),
+        }
+    }
 }
 
 // The device that has readings: an inverter.
 const INVERTER: u8 = 1;
 
-// What a message of this device and command measures. The value is never signed.
-pub fn reading_of(device: u8, command: u8, payload: &[u8]) -> Read
+// What a message of this device and command measures. The value is never signed. The command is asked for before the exponent is looked
+// at: for another command 17 goes before 15 and 16.
+#[tactic(auto, unfolding(crate::specs::Reading::reading_of))]
+pub fn reading_of(device: u8, command: u8, payload: &[u8]) -> Result<Reading, Refusal>
     ensures { IsReading device command payload.now result }
 {
     if device != INVERTER {
-        return Read::Refused(Refusal::NotForThisCall);
+        return Err(Refusal::NotForThisCall);
     }
-    if !is_reading(command) {
-        return Read::Refused(Refusal::NotForThisCall);
-    }
-    if payload.len() != SIZE {
-        return Read::Refused(Refusal::NotForThisCall);
-    }
-    let exponent = payload[2];
-    if too_great(exponent) {
-        return Read::Refused(Refusal::ExponentTooHigh);
-    }
-    if too_small(exponent) {
-        return Read::Refused(Refusal::WrongAddressOrExponentTooLow);
-    }
-    let x = double(word(payload[0], payload[1]), exponent);
-    Read::Value(named(command, x))
+    let Some(kind) = kind_of(command) else {
+        return Err(Refusal::NotForThisCall);
+    };
+    let parts = parts_of(payload)?;
+    Ok(kind.reading(double(parts.word, parts.exponent)))
 }
 
-fn is_power(command: u8) -> bool
-    ensures { result ≡ is_power command }
+// What a command measures; another command is none's.
+#[tactic(auto, unfolding(crate::specs::Reading::kind_of))]
+fn kind_of(command: u8) -> Option<Kind>
+    ensures { makers result ≡ kind_of command }
 {
-    (command == 0x10) | (command == 0x1A) | (command == 0x20)
-}
-
-fn is_energy(command: u8) -> bool
-    ensures { result ≡ is_energy command }
-{
-    (0x11 <= command) & (command <= 0x13)
-}
-
-fn is_current(command: u8) -> bool
-    ensures { result ≡ is_current command }
-{
-    (command == 0x14) | (command == 0x17) | (0x2B <= command) & (command <= 0x2D)
-}
-
-fn is_voltage(command: u8) -> bool
-    ensures { result ≡ is_voltage command }
-{
-    (command == 0x15)
-        | (command == 0x18)
-        | (0x1B <= command) & (command <= 0x1D)
-        | (0x21 <= command) & (command <= 0x23)
-        | (command == 0x2E)
-}
-
-fn is_frequency(command: u8) -> bool
-    ensures { result ≡ is_frequency command }
-{
-    command == 0x16
-}
-
-fn is_minutes(command: u8) -> bool
-    ensures { result ≡ is_minutes command }
-{
-    (command == 0x1E) | (command == 0x24)
-}
-
-fn is_money(command: u8) -> bool
-    ensures { result ≡ is_money command }
-{
-    (command == 0x19) | (command == 0x1F)
-}
-
-// Asked before the exponent is looked at: for another command 17 goes before 15 and 16.
-fn is_reading(command: u8) -> bool
-    ensures { result ≡ is_kind (kind_of command) }
-{
-    is_power(command)
-        | is_energy(command)
-        | is_current(command)
-        | is_voltage(command)
-        | is_frequency(command)
-        | is_minutes(command)
-        | is_money(command)
-}
-
-// The command is a reading's, so what is none of the first six is money.
-fn named(command: u8, x: f64) -> Reading
-    requires { is_kind (kind_of command) ≡ true }
-    ensures { carried (kind_of command) x ≡ some result }
-{
-    if is_power(command) {
-        return Reading::Power(x);
+    match command {
+        0x10 | 0x1A | 0x20 => Some(Kind::Power),
+        0x11..=0x13 => Some(Kind::Energy),
+        0x14 | 0x17 | 0x2B..=0x2D => Some(Kind::Current),
+        0x15 | 0x18 | 0x1B..=0x1D | 0x21..=0x23 | 0x2E => Some(Kind::Voltage),
+        0x16 => Some(Kind::Frequency),
+        0x1E | 0x24 => Some(Kind::Minutes),
+        0x19 | 0x1F => Some(Kind::Money),
+        _ => None,
     }
-    if is_energy(command) {
-        return Reading::Energy(x);
-    }
-    if is_current(command) {
-        return Reading::Current(x);
-    }
-    if is_voltage(command) {
-        return Reading::Voltage(x);
-    }
-    if is_frequency(command) {
-        return Reading::Frequency(x);
-    }
-    if is_minutes(command) {
-        return Reading::Minutes(x);
-    }
-    Reading::Money(x)
 }
 
 // The double of an exponent that is neither too great nor too small.
-fn double(w: u16, exponent: u8) -> f64
-    requires { (too_great (exponent_of exponent) ≡ false) × (too_small (exponent_of exponent) ≡ false) }
-    ensures { result ≡ double_of w (exponent_of exponent) }
+fn double(w: u16, exponent: i8) -> f64
+    requires { (too_great exponent ≡ false) × (too_small exponent ≡ false) }
+    ensures { result ≡ double_of w exponent }
 {
-    if exponent < MINUS {
-        return whole(w, exponent as usize);
+    let k = u32::from(exponent.unsigned_abs());
+    if exponent < 0 {
+        divided(w, k)
+    } else {
+        whole(w, k)
     }
-    divided(w, 256 - (exponent as usize))
 }
 
 // Exact: 65,535 times ten to 10 is below 2 to 53, up to which a double holds every whole number.
-fn whole(w: u16, k: usize) -> f64
+fn whole(w: u16, k: u32) -> f64
     requires { k < 11 }
     ensures { result ≡ of_int binary64 (pos (w * 10 ^ k)) }
 {
@@ -166,7 +112,7 @@ fn whole(w: u16, k: usize) -> f64
 }
 
 // Rounded once, since the value and the power of ten are both exact.
-fn divided(w: u16, k: usize) -> f64
+fn divided(w: u16, k: u32) -> f64
     requires { k < 4 }
     ensures { result ≡ div binary64 (of_int binary64 (pos w)) (of_int binary64 (pos (10 ^ k))) }
 {
