@@ -1,4 +1,5 @@
 -- The demands of specs/Demands.antt, each under its name. Assumes nothing.
+use Rattle.std.specs.Prelude.{Ok, Err}
 use Prim.Native.Nat.{ℕ, ◌+◌, ◌/◌, ◌%◌}
 use mathlib.Core.Path.{◌≡◌, refl, sym, ap, ◌∙◌}
 use mathlib.Core.Option.{some}
@@ -13,8 +14,7 @@ use Rattle.answers.specs.Answer.{Answer, answer}
 use Rattle.answers.specs.Written as Written
 use Rattle.answers.specs.Written.{Writes}
 use Rattle.answers.specs.declared.Refusal.TheVariants.{WrongPortOrCount}
-use Rattle.answers.specs.declared.Written.{Written}
-use Rattle.answers.specs.declared.Written.TheVariants.{Done, Refused}
+use Rattle.answers.specs.Written.{Written}
 use Rattle.answers.proofs.WriterPromise.{writes_frame, writes_nothing}
 use Rattle.uplink.specs.Packet.{version_of, known, takes, lead_length, packet, packet_at, written, IsWritten}
 use Rattle.uplink.specs.Demands.{ReadsBack, Begins, Accepts, Kept, Fits, SecondVersion, WrittenForPort4, ReadForPort4}
@@ -30,8 +30,8 @@ pub record Put (port : ℕ) (piece later : List ℕ) (n : ℕ) : Type 0 where
   pub front : take n later ≡ packet port piece
 
 length_told : (w : Written) (n : ℕ) → Written.told w ≡ answer 0 (n ∷ []) → Written.length_of w ≡ some n
-length_told (Done m) n e = let same : m ≡ n = cc in ap some same
-length_told (Refused why) n e = absurd (never 1 why (n ∷ []) e)
+length_told (Ok m) n e = let same : m ≡ n = cc in ap some same
+length_told (Err why) n e = absurd (never 1 why (n ∷ []) e)
 
 -- a writer's promise, where the piece is taken
 as_writer : (port : ℕ) (piece lent later : List ℕ) (w : Written) → takes port (length piece) ≡ true → IsWritten port piece lent w later
@@ -111,5 +111,5 @@ unfolding written
 kept port piece lent later why p = go (takes port (length piece)) refl
   where
     go : (t : Bool) → takes port (length piece) ≡ t → later ≡ lent
-    go true t = writes_nothing false (packet port piece) lent later (Refused why) (as_writer port piece lent later (Refused why) t p) refl
+    go true t = writes_nothing false (packet port piece) lent later (Err why) (as_writer port piece lent later (Err why) t p) refl
     go false t = rw t at p.1

@@ -1,13 +1,19 @@
 -- Laws of the packet's tests, and of the stores and the copy that write a packet. Assumes nothing.
+use Rattle.std.specs.Prelude.{Ok, Err, Some, None, ◌⊎◌}
 use Prim.Native.Nat.{ℕ, ◌+◌, ◌-◌, ◌≤◌, ◌<◌}
-use mathlib.Core.Path.{◌≡◌, sym, ap, ◌∙◌}
+use mathlib.Core.Path.{◌≡◌, refl, sym, ap, ◌∙◌}
 use mathlib.Core.List.{List, [], ◌∷◌, ◌++◌}
-use mathlib.Core.Bool.{true, false}
+use mathlib.Core.Bool.{Bool, true, false, cond, ◌&&◌, ◌||◌}
+use mathlib.Core.Logic.{inl, inr}
 use native.Mathlib.Omega.{arith}
 use lib.ListN.{length, take, drop}
 use lib.Seq.{drop-drop, sets, sets-eq}
 use lib.Dec.{leb, eqb}
-use borrow.Author.Tests.{leb-true, le-leb, lt-leb}
+use Rattle.std.specs.List.{starts_with}
+use Rattle.std.specs.Option.{option_eq}
+use Rattle.std.proofs.Math.Bool.{and_assoc, and-true}
+use Rattle.numbers.proofs.Alike.{zero_is_one}
+use borrow.Author.Tests.{leb-true, le-leb, lt-leb, eq-eqb, ne_eqb, eqb-true}
 use borrow.Rule.Slice.PartMut.{put_mid, Post-is}
 use Rattle.numbers.proofs.TestLaws.{both}
 use Rattle.answers.specs.Answer.{answer, need}
@@ -15,10 +21,8 @@ use Rattle.answers.specs.Refusal.{refused}
 use Rattle.answers.specs.Written.{writing, Writes}
 use Rattle.answers.proofs.WriterPromise.{writes_no_room, writes_done}
 use Rattle.answers.specs.declared.Refusal.TheVariants.{NoRoom, WrongMark, WrongVersion, WrongPortOrCount, BytesMissing}
-use Rattle.answers.specs.declared.Written.{Written}
-use Rattle.answers.specs.declared.Written.TheVariants.{Done, Refused as NotWritten}
-use Rattle.uplink.specs.declared.Received.TheVariants.{Packet, Refused}
-use Rattle.uplink.specs.Packet.{version_of, known, counted, lead_length, piece_max, lead, packet, marked, version_in, port_in, count_in, carried, packet_at, takes, written, IsRead, IsWritten}
+use Rattle.answers.specs.Written.{Written}
+use Rattle.uplink.specs.Packet.{mark, version_of, version_for, known, counted, lead_length, piece_max, lead, packet, marked, version_in, port_in, count_in, carried, packet_at, takes, written, IsRead, IsWritten}
 
 -- ---- tests
 
@@ -36,6 +40,69 @@ carried_count s e = counted_within (count_in s) (both (eqb (version_of (port_in 
 pub takes_count : (port count : ℕ) → takes port count ≡ true → (1 ≤ count) × (count ≤ piece_max)
 takes_count port count e = counted_within count (both (known (version_of port)) (counted count) e).1
 
+absurdly : {A : Type 0} → false ≡ true → A
+absurdly e = zero_is_one cc
+
+-- ---- the mark
+
+alike : (a b : ℕ) → eqb a b ≡ eqb b a
+alike a b = go (eqb a b) refl
+  where
+    go : (t : Bool) → eqb a b ≡ t → eqb a b ≡ eqb b a
+    go true e = e ∙ sym (eq-eqb b a (sym (eqb-true a b e)))
+    go false e = e ∙ sym (ne_eqb b a (λ q. absurdly (sym e ∙ eq-eqb a b (sym q))))
+
+-- the mark at the front is its three bytes there
+pub marked_front : (s : List ℕ) → lead_length ≤ length s → starts_with eqb s mark ≡ marked s
+unfolding marked
+marked_front [] h = absurd (omega arith)
+marked_front (a ∷ []) h = absurd (omega arith)
+marked_front (a ∷ b ∷ []) h = absurd (omega arith)
+marked_front (a ∷ b ∷ c ∷ s) h =
+    rw (alike a 0x53, alike b 0x42, alike c 0x52, and-true (eqb 0x52 c)) (sym (and_assoc (eqb 0x53 a) (eqb 0x42 b) (eqb 0x52 c)))
+
+-- ---- a port's version
+
+-- one that carries none is known to carry none
+none_or_known : (port : ℕ) → (version_of port ≡ 0) ⊎ (known (version_of port) ≡ true)
+unfolding version_of known
+none_or_known port = go (leb 1 port && leb port 3) (eqb port 4)
+  where
+    go : (t u : Bool) → (let v : ℕ = cond t 1 (cond u 2 0) in (v ≡ 0) ⊎ ((eqb v (version_of 1) || eqb v (version_of 4)) ≡ true))
+    go true u = inr refl
+    go false true = inr refl
+    go false false = inl refl
+
+zero_not_known : (version : ℕ) → version ≡ 0 → known version ≡ false
+unfolding version_of known
+zero_not_known version e = rw e refl
+
+pub version_none : (port : ℕ) → version_for port ≡ None → known (version_of port) ≡ false
+version_none port = go (eqb (version_of port) 0) refl
+  where
+    go : (t : Bool) → eqb (version_of port) 0 ≡ t → cond t None (Some (version_of port)) ≡ None → known (version_of port) ≡ false
+    go true e f = zero_not_known (version_of port) (eqb-true (version_of port) 0 e)
+    go false e f = absurdly cc
+
+pub version_some : (port version : ℕ) → version_for port ≡ Some version → (version ≡ version_of port) × (known (version_of port) ≡ true)
+version_some port version = go (eqb (version_of port) 0) refl (none_or_known port)
+  where
+    go : (t : Bool) → eqb (version_of port) 0 ≡ t → (version_of port ≡ 0) ⊎ (known (version_of port) ≡ true) → cond t None (Some (version_of port)) ≡ Some version
+        → (version ≡ version_of port) × (known (version_of port) ≡ true)
+    go true e k f = absurdly cc
+    go false e (inl z) f = absurdly (sym e ∙ eq-eqb (version_of port) 0 z)
+    go false e (inr k) f = (cc, k)
+
+-- a known version is compared with the one that carries a port
+pub version_is : (port version : ℕ) → known version ≡ true → option_eq eqb (version_for port) (Some version) ≡ eqb (version_of port) version
+version_is port version k = go (eqb (version_of port) 0) refl
+  where
+    go : (t : Bool) → eqb (version_of port) 0 ≡ t → option_eq eqb (cond t None (Some (version_of port))) (Some version) ≡ eqb (version_of port) version
+    go true e =
+        let zero = eqb-true (version_of port) 0 e in
+        sym (ne_eqb (version_of port) version (λ q. absurdly (sym (zero_not_known version (sym q ∙ zero)) ∙ k)))
+    go false e = refl
+
 -- ---- what the reader tells, by the tests that lead to it
 
 -- a lead with the mark and a known version
@@ -45,15 +112,15 @@ pub record Head (s : List ℕ) : Type 0 where
   pub knows : known (version_in s) ≡ true
 
 module _ (s : List ℕ) where
-  pub is_short : length s < lead_length → IsRead s (Refused BytesMissing)
+  pub is_short : length s < lead_length → IsRead s (Err BytesMissing)
   unfolding packet_at
   is_short h = simp (lt-leb lead_length (length s) h)
 
-  pub not_marked : lead_length ≤ length s → marked s ≡ false → IsRead s (Refused WrongMark)
+  pub not_marked : lead_length ≤ length s → marked s ≡ false → IsRead s (Err WrongMark)
   unfolding packet_at
   not_marked h m = simp (le-leb lead_length (length s) h, m)
 
-  pub not_known : lead_length ≤ length s → marked s ≡ true → known (version_in s) ≡ false → IsRead s (Refused WrongVersion)
+  pub not_known : lead_length ≤ length s → marked s ≡ true → known (version_in s) ≡ false → IsRead s (Err WrongVersion)
   unfolding packet_at
   not_known h m k = simp (le-leb lead_length (length s) h, m, k)
 
@@ -64,14 +131,14 @@ module _ (s : List ℕ) where
   unfolding packet_at
   behind_head h = simp (le-leb lead_length (length s) h.long, h.begins, h.knows)
 
-  pub not_carried : Head s → carried s ≡ false → IsRead s (Refused WrongPortOrCount)
+  pub not_carried : Head s → carried s ≡ false → IsRead s (Err WrongPortOrCount)
   not_carried h e = sym (behind_head h ∙ simp e)
 
-  pub is_cut : Head s → carried s ≡ true → length s < lead_length + count_in s → IsRead s (Refused BytesMissing)
+  pub is_cut : Head s → carried s ≡ true → length s < lead_length + count_in s → IsRead s (Err BytesMissing)
   is_cut h e l = sym (behind_head h ∙ simp (e, lt-leb (lead_length + count_in s) (length s) l))
 
   pub is_packet : (used : ℕ) → Head s → carried s ≡ true → used ≡ lead_length + count_in s → used ≤ length s
-      → IsRead s (Packet (port_in s) (count_in s) used)
+      → IsRead s (Ok (record { port = port_in s; count = count_in s; used = used }))
   is_packet used h e u l = sym (behind_head h ∙ simp (e, le-leb (lead_length + count_in s) (length s) (omega arith), u))
 
 -- ---- what the writer leaves
@@ -80,7 +147,7 @@ pub packet_length : (port : ℕ) (piece : List ℕ) → length (packet port piec
 packet_length port piece = omega arith
 
 module _ (port : ℕ) (piece lent : List ℕ) where
-  pub not_taken : takes port (length piece) ≡ false → IsWritten port piece lent (NotWritten WrongPortOrCount) lent
+  pub not_taken : takes port (length piece) ≡ false → IsWritten port piece lent (Err WrongPortOrCount) lent
   unfolding written
   not_taken t = (simp t, simp t)
 
@@ -93,15 +160,15 @@ module _ (port : ℕ) (piece lent : List ℕ) where
       → IsWritten port piece lent w later
   writes w later t x = rw (by_writer t) x
 
-  pub no_room : takes port (length piece) ≡ true → length lent < lead_length + length piece → IsWritten port piece lent (NotWritten NoRoom) lent
-  no_room t h = writes (NotWritten NoRoom) lent t (writes_no_room (packet port piece) lent (omega arith))
+  pub no_room : takes port (length piece) ≡ true → length lent < lead_length + length piece → IsWritten port piece lent (Err NoRoom) lent
+  no_room t h = writes (Err NoRoom) lent t (writes_no_room (packet port piece) lent (omega arith))
 
   pub is_written : (later : List ℕ) → takes port (length piece) ≡ true → lead_length + length piece ≤ length lent
       → later ≡ packet port piece ++ drop (lead_length + length piece) lent
-      → IsWritten port piece lent (Done (lead_length + length piece)) later
+      → IsWritten port piece lent (Ok (lead_length + length piece)) later
   is_written later t h e =
       let long = packet_length port piece in
-      writes (Done (lead_length + length piece)) later t (rw (e, sym long) (writes_done (packet port piece) lent (omega arith)))
+      writes (Ok (lead_length + length piece)) later t (rw (e, sym long) (writes_done (packet port piece) lent (omega arith)))
 
 -- src copied to `&mut l[at..at + length src]`
 mid_paste : (l m src : List ℕ) (at : ℕ) → m ≡ src → put_mid at (at + length src - at) l m ≡ take at l ++ (src ++ drop (at + length src) l)

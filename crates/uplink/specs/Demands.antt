@@ -1,13 +1,11 @@
 -- What reader and writer owe each other and their callers, over the promises of the calls themselves.
-use Rattle.std.specs.Prelude.{ℕ, ◌+◌, ◌≤◌, ◌≡◌, ◌↔◌, List, [], ◌∷◌, ◌++◌, true, length, take}
+use Rattle.std.specs.Prelude.{ℕ, ◌+◌, ◌≤◌, ◌≡◌, ◌↔◌, List, [], ◌∷◌, ◌++◌, true, length, take, Err}
 use Rattle.std.proofs.Math.Seq.{slice}
 use Rattle.answers.specs.Answer.{answer}
 use Rattle.answers.specs.Written as Written
 use Rattle.answers.specs.declared.Refusal.{Refusal}
-use Rattle.answers.specs.declared.Written.{Written}
-use Rattle.answers.specs.declared.Written.TheVariants.{Refused}
-use Rattle.uplink.specs.Packet.{lead_length, piece_max, packet, takes, told, IsRead, IsWritten}
-use Rattle.uplink.specs.declared.Received.{Received}
+use Rattle.answers.specs.Written.{Written}
+use Rattle.uplink.specs.Packet.{lead_length, piece_max, packet, takes, Received, told, IsRead, IsWritten}
 
 -- Whatever is written reads back: of the n bytes written, followed by any others, the reader can only tell this port,
 -- this piece's length and n bytes used; and the piece stands behind the lead, up to n.
@@ -39,7 +37,7 @@ Accepts =
 abbrev pub Kept : Type 0
 Kept =
     (port : ℕ) (piece lent later : List ℕ) (why : Refusal)
-    → IsWritten port piece lent (Refused why) later
+    → IsWritten port piece lent (Err why) later
     → later ≡ lent
 
 -- what a caller may count on with an accepted packet

@@ -1,14 +1,14 @@
 -- The uplink packet, in document 01's words and order, with port 4 of document 02, Req 04: its bytes, its tests, and what reading and writing promise.
-use Rattle.std.specs.Prelude.{ℕ, ◌+◌, ◌*◌, ◌/◌, ◌%◌, ◌≡◌, List, [], ◌∷◌, ◌++◌, Bool, false, cond, ◌&&◌, ◌||◌, length, get_or, leb, eqb}
+use Rattle.std.specs.Prelude.{ℕ, ◌+◌, ◌*◌, ◌/◌, ◌%◌, ◌≡◌, List, [], ◌∷◌, ◌++◌, Bool, false, cond, ◌&&◌, ◌||◌, length, get_or, leb, eqb, Option, Some, None, Result, Ok, Err}
 use Rattle.numbers.specs.Texts.{text}
 use Rattle.answers.specs.Answer.{Answer, answer, need}
 use Rattle.answers.specs.Refusal.{refused}
 use Rattle.answers.specs.Written as Written
 use Rattle.answers.specs.Written.{writing}
 use Rattle.answers.specs.declared.Refusal.TheVariants.{WrongMark, WrongVersion, WrongPortOrCount, BytesMissing}
-use Rattle.answers.specs.declared.Written.{Written}
-use Rattle.uplink.specs.declared.Received.{Received}
-use Rattle.uplink.specs.declared.Received.TheVariants.{Packet, Refused}
+use Rattle.answers.specs.Written.{Written}
+use Rattle.answers.specs.declared.Refusal.{Refusal}
+use Rattle.uplink.specs.declared.Packet.{Packet}
 
 -- Mark `SBR`,
 abbrev pub mark : List ℕ
@@ -19,6 +19,10 @@ mark = text "SBR"
 -- The table of ports stands above this crate; that each port which a version carries has a row there is shown in `listing_whole`.
 unfoldable pub version_of : ℕ → ℕ
 version_of port = cond (leb 1 port && leb port 3) 1 (cond (eqb port 4) 2 0)
+
+-- the version that carries a port, where one does
+abbrev pub version_for : ℕ → Option ℕ
+version_for port = cond (eqb (version_of port) 0) None (Some (version_of port))
 
 -- a version that carries some port: that of the ports 1 to 3, or that of port 4
 unfoldable pub known : ℕ → Bool
@@ -70,9 +74,13 @@ packet_at s =
     (need (leb (lead_length + count_in s) (length s)) (refused 3 BytesMissing)
     (answer 0 (port_in s ∷ count_in s ∷ (lead_length + count_in s) ∷ []))))))
 
+-- what `read` answers
+abbrev pub Received : Type 0
+Received = Result Packet Refusal
+
 abbrev pub told : Received → Answer
-told (Packet port count used) = answer 0 (port ∷ count ∷ used ∷ [])
-told (Refused why) = refused 3 why
+told (Ok p) = answer 0 (p.port ∷ p.count ∷ p.used ∷ [])
+told (Err why) = refused 3 why
 
 -- what `read` promises of the bytes and its result
 abbrev pub IsRead : List ℕ → Received → Type 0

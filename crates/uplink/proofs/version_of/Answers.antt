@@ -1,17 +1,22 @@
--- `version_of` meets its promise: by its two tests. Assumes nothing.
+-- `version_of` meets its promise: by the port's arm. Assumes nothing.
 use native.Mathlib.Omega.{arith}
-use borrow.Author.Tests.{eq-eqb, ne_eqb}
+use mathlib.Core.Path.{refl}
+use borrow.Author.Tests.{ne_eqb, le-leb, lt-leb}
 use Rattle.uplink.specs.Packet.{version_of}
 use Rattle.uplink.proofs.version_of.Goals as goal
 
-pub returns-then-port : goal.returns-then-port
+pub returns-in-4 : goal.returns-in-4
 unfolding version_of
-returns-then-port c = simp c.if-port.true
+returns-in-4 c = rw c.in-4.is refl
 
-pub returns-then-port-eq4 : goal.returns-then-port-eq4
+pub returns-in-1-to-3 : goal.returns-in-1-to-3
 unfolding version_of
-returns-then-port-eq4 c = simp (c.if-port.false, eq-eqb c.args.port 4 (omega arith))
+returns-in-1-to-3 c = simp (le-leb 1 c.args.port (omega arith), le-leb c.args.port 3 (omega arith))
 
-pub returns-else-port-eq4 : goal.returns-else-port-eq4
+pub returns-in_default : goal.returns-in_default
 unfolding version_of
-returns-else-port-eq4 c = simp (c.if-port.false, ne_eqb c.args.port 4 (λ e. omega arith))
+returns-in_default c = simp (lt-leb 1 c.args.port (omega arith), ne_eqb c.args.port 4 (λ e. omega arith))
+
+pub returns-in_default-2 : goal.returns-in_default-2
+unfolding version_of
+returns-in_default-2 c = simp (le-leb 1 c.args.port (omega arith), lt-leb c.args.port 3 (omega arith), ne_eqb c.args.port 4 (λ e. omega arith))
