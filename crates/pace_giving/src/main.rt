@@ -4,8 +4,8 @@
 
 mod input;
 
+use answers::Refusal;
 use input::read_full;
-use roster::Given;
 use std::io::Stdout;
 use test_parts::LARGE;
 
@@ -13,20 +13,18 @@ use test_parts::LARGE;
 const REFUSED: u64 = 1000;
 
 // What a call told as one number: the address, or a refusal's number from 1,000 on.
-fn told(given: Given) -> u64 {
+fn told(given: Result<u8, Refusal>) -> u64 {
     match given {
-        Given::Address(address) => address as u64,
-        Given::Refused(why) => REFUSED + why.number() as u64,
+        Ok(address) => u64::from(address),
+        Err(why) => REFUSED + u64::from(why.number()),
     }
 }
 
 // Gives a serial its address so many times, and adds up what was told.
 fn given(all: &mut [u8], serial: &[u8], times: u8) -> u64 {
     let mut sum: u64 = 0;
-    let mut n: u8 = 0;
-    while n < times {
-        sum = std::num::wrapping_add_u64(sum, told(roster::give(all, serial)));
-        n += 1;
+    for _ in 0..times {
+        sum = sum.wrapping_add(told(roster::give(all, serial)));
     }
     sum
 }

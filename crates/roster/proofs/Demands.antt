@@ -13,12 +13,10 @@ use borrow.Author.Tests.{ltb-true, ltb-false}
 use Rattle.answers.specs.Answer.{Answer, answer, number}
 use Rattle.roster.specs.Roster.{places, serial_size, free_place, free, used_by, first, no_place, spoilt, used_place, giving_sound, giving, removing, finding}
 use Rattle.roster.specs.Bytes.{places_of, bytes_of}
-use Rattle.roster.specs.Calls.{told_given, IsGiven, IsRemoved}
+use Rattle.std.specs.Prelude.{Some, None, Ok, Err}
+use Rattle.roster.specs.Calls.{Given, Removed, told_given, IsGiven, IsRemoved}
 use Rattle.roster.specs.Demands.{fresh_roster, GivenIsFound, GivenTwice, LowestFree, RemovedIsGiven, Fills, addresses_from, RemovedIsGone, OthersStay, OnlyOnePlace, NeverSpoilt, StaysWellFormed, Kept}
 use Rattle.roster.specs.declared.Place.{Place}
-use Rattle.roster.specs.declared.Given.{Given}
-use Rattle.roster.specs.declared.Removed.{Removed}
-use Rattle.roster.specs.declared.Found.TheVariants as Found
 use Rattle.roster.proofs.PlacesInBytes.{bytes_places, places_bytes}
 use Rattle.roster.proofs.SoundTest.{Fine, not_spoilt, fine, sound_whole}
 use Rattle.roster.proofs.RosterRule.{no, first_found, some_pass, fine_free, freed_gone}
@@ -57,7 +55,7 @@ given_is_found roster serial later g f address p t q =
     ap (λ (ps : List Place). finding ps serial) a.holds
     ∙ finding_there a.ps serial a.all a.fits a.there
     ∙ ap (λ (n : ℕ). answer 0 (n ∷ [])) a.at in
-    found_alike f (Found.Address address) q.1 (omega (arith, a.at)) (q.0 ∙ found)
+    found_alike f (Ok (Some address)) q.1 (omega (arith, a.at)) (q.0 ∙ found)
 
 giving_there : (ps : List Place) (s : List ℕ) → Fine ps → length s ≡ serial_size → no_place (used_by s) ps ≡ false → giving ps s ≡ (answer 0 ((first (used_by s) ps + 1) ∷ []), ps)
 unfolding giving_sound
@@ -125,14 +123,14 @@ removed_is_given roster serial later last f r g address pf tf pr tr pg =
 
 -- the places afterwards are those that the rule says
 given_holds : (roster serial later : List ℕ) (g : Given) → IsGiven roster serial g later → places_of later ≡ (giving (places_of roster) serial).1
-given_holds roster serial later (Given.Address address) p = held_by (giving (places_of roster) serial).1 later (giving_fine (places_of roster) serial (giving_of (places_of roster) serial address (sym p.0)).fine) p.1
-given_holds roster serial later (Given.Refused why) p =
+given_holds roster serial later (Ok address) p = held_by (giving (places_of roster) serial).1 later (giving_fine (places_of roster) serial (giving_of (places_of roster) serial address (sym p.0)).fine) p.1
+given_holds roster serial later (Err why) p =
     let same = giving_refused (places_of roster) serial why p.0 in
     ap places_of (p.1 ∙ ap bytes_of same ∙ bytes_places roster) ∙ sym same
 
 removed_holds : (roster later : List ℕ) (address : ℕ) (r : Removed) → IsRemoved roster address r later → places_of later ≡ (removing (places_of roster) address).1
-removed_holds roster later address Removed.Done p = held_by (removing (places_of roster) address).1 later (removing_fine (places_of roster) address (removing_of (places_of roster) address (sym p.0)).2) p.1
-removed_holds roster later address (Removed.Refused why) p =
+removed_holds roster later address (Ok done) p = held_by (removing (places_of roster) address).1 later (removing_fine (places_of roster) address (removing_of (places_of roster) address (sym p.0)).2) p.1
+removed_holds roster later address (Err why) p =
     let same = removing_refused (places_of roster) address why p.0 in
     ap places_of (p.1 ∙ ap bytes_of same ∙ bytes_places roster) ∙ sym same
 
@@ -147,7 +145,7 @@ others_stay = record {
       found_alike h f b.1 a.1
       (b.0
       ∙ ap (λ (qs : List Place). finding qs other) (removed_holds roster later address r p)
-      ∙ removing_others ps other address (λ l e. d (found_alike f (Found.Address address) a.1 l (a.0 ∙ e)))
+      ∙ removing_others ps other address (λ l e. d (found_alike f (Ok (Some address)) a.1 l (a.0 ∙ e)))
       ∙ sym a.0));
 }
 
@@ -160,8 +158,8 @@ removed_is_gone roster serial later address r f a p b =
     let qs : List Place = set ps k free_place in
     let done = removing_found ps serial address found.fine there.0 there.1 in
     let holds : places_of later ≡ qs = removed_holds roster later address r p ∙ ap (λ (end : Answer × List Place). end.1) done in (
-      removed_alike r Removed.Done (p.0 ∙ ap (λ (end : Answer × List Place). end.0) done),
-      found_alike f Found.NoAddress b.1 tt
+      removed_alike r (Ok tt) (p.0 ∙ ap (λ (end : Answer × List Place). end.0) done),
+      found_alike f (Ok None) b.1 tt
           (b.0 ∙ ap (λ (x : List Place). finding x serial) holds ∙ finding_none qs serial (fine_free ps k found.fine) found.fits (freed_gone serial ps found.fine.all)),
     )
 

@@ -14,10 +14,9 @@ use Rattle.answers.specs.Refusal.{refused}
 use Rattle.answers.specs.declared.Refusal.TheVariants.{RosterFull}
 use Rattle.roster.specs.Roster.{places, serial_size, used_place, free_place, free, used_by, first, no_place, sound, giving_sound, giving}
 use Rattle.roster.specs.Bytes.{place_size, places_of, bytes_of}
-use Rattle.roster.specs.Calls.{told_given, IsGiven}
+use Rattle.roster.specs.Calls.{Given, told_given, IsGiven}
 use Rattle.roster.specs.Demands.{fresh_roster, GivenAll, New, EachNew, addresses_from}
 use Rattle.roster.specs.declared.Place.{Place}
-use Rattle.roster.specs.declared.Given.{Given}
 use Rattle.roster.proofs.PlacesInBytes.{places_bytes}
 use Rattle.roster.proofs.SoundTest.{Fine, sound_whole}
 use Rattle.roster.proofs.RosterRule.{same_other, none_and, used_by_used, used_by_free, used_used, used_free, good_free, alone_free, sound_and, fine_used}

@@ -7,49 +7,47 @@ use native.Mathlib.Omega.{arith}
 use lib.ListN.{get_or}
 use Rattle.numbers.proofs.Alike.{alike_by_back}
 use Rattle.answers.proofs.NumbersHaveCases.{heard, heard_refused}
-use Rattle.roster.specs.Calls.{told_given, told_removed, told_found, AddressNotZero, IsGiven, IsRemoved, IsFound}
-use Rattle.roster.specs.declared.Given.{Given}
-use Rattle.roster.specs.declared.Removed.{Removed}
-use Rattle.roster.specs.declared.Found.{Found}
+use Rattle.std.specs.Prelude.{Some, None, Ok, Err}
+use Rattle.roster.specs.Calls.{Given, Removed, Found, told_given, told_removed, told_found, AddressNotZero, IsGiven, IsRemoved, IsFound}
 
 -- ---- told alike is one: by the way back
 
 pub given_alike : (a b : Given) → told_given a ≡ told_given b → a ≡ b
-given_alike = alike_by_back told_given (heard done Given.Refused) there
+given_alike = alike_by_back told_given (heard done Err) there
   where
     done : List ℕ → Given
-    done others = Given.Address (get_or others 0 0)
+    done others = Ok (get_or others 0 0)
 
-    there : (a : Given) → heard done Given.Refused (told_given a) ≡ a
-    there (Given.Address address) = refl
-    there (Given.Refused why) = heard_refused done Given.Refused (0 ∷ []) why
+    there : (a : Given) → heard done Err (told_given a) ≡ a
+    there (Ok address) = refl
+    there (Err why) = heard_refused done Err (0 ∷ []) why
 
 pub removed_alike : (a b : Removed) → told_removed a ≡ told_removed b → a ≡ b
-removed_alike = alike_by_back told_removed (heard done Removed.Refused) there
+removed_alike = alike_by_back told_removed (heard done Err) there
   where
     done : List ℕ → Removed
-    done others = Removed.Done
+    done others = Ok tt
 
-    there : (a : Removed) → heard done Removed.Refused (told_removed a) ≡ a
-    there Removed.Done = refl
-    there (Removed.Refused why) = heard_refused done Removed.Refused [] why
+    there : (a : Removed) → heard done Err (told_removed a) ≡ a
+    there (Ok done) = refl
+    there (Err why) = heard_refused done Err [] why
 
 -- of results whose address is not 0
 pub found_alike : (a b : Found) → AddressNotZero a → AddressNotZero b → told_found a ≡ told_found b → a ≡ b
-found_alike a b p q e = sym (there a p) ∙ ap (heard done Found.Refused) e ∙ there b q
+found_alike a b p q e = sym (there a p) ∙ ap (heard done Err) e ∙ there b q
   where
     found_at : ℕ → Found
-    found_at zero = Found.NoAddress
-    found_at (suc n) = Found.Address (suc n)
+    found_at zero = Ok None
+    found_at (suc n) = Ok (Some (suc n))
 
     done : List ℕ → Found
     done others = found_at (get_or others 0 0)
 
-    there : (a : Found) → AddressNotZero a → heard done Found.Refused (told_found a) ≡ a
-    there (Found.Address zero) p = absurd (omega (arith, p))
-    there (Found.Address (suc n)) p = refl
-    there Found.NoAddress p = refl
-    there (Found.Refused why) p = heard_refused done Found.Refused (0 ∷ []) why
+    there : (a : Found) → AddressNotZero a → heard done Err (told_found a) ≡ a
+    there (Ok (Some zero)) p = absurd (omega (arith, p))
+    there (Ok (Some (suc n))) p = refl
+    there (Ok None) p = refl
+    there (Err why) p = heard_refused done Err (0 ∷ []) why
 
 -- ---- the calls
 

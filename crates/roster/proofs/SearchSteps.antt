@@ -2,18 +2,19 @@
 -- Assumes nothing.
 use Prim.Native.Nat.{ℕ, suc, ◌+◌, ◌*◌, ◌-◌, ◌≤◌, ◌<◌}
 use mathlib.Core.Path.{◌≡◌, sym, ap, ◌∙◌}
-use mathlib.Core.Bool.{Bool, true, false, ◌&&◌, and_assoc, and-true}
-use mathlib.Core.List.{List, ◌∷◌}
+use mathlib.Core.Bool.{Bool, true, false, cond, not, ◌&&◌, and_assoc, and-true}
+use mathlib.Core.List.{List, [], ◌∷◌}
 use native.Mathlib.Numerals.{add-one}
 use native.Mathlib.Omega.{arith}
-use native.Mathlib.Nat.{zero-add}
-use lib.ListN.{length, get_or, take, drop, drop_of_length-le}
+use lib.ListN.{length, get_or, take, drop, drop_of_length-le, length-drop}
 use lib.Seq.{drop-cons, drop-length}
 use lib.Dec.{eqb}
+use borrow.Author.Tests.{eqb-false, eq-eqb, ne_eqb, not-true, not-false}
+use Rattle.std.specs.Prelude.{Option, Some, None, is_some}
 use Rattle.numbers.specs.Lists.{same}
-use Rattle.roster.specs.Roster.{places, serial_size, first}
+use Rattle.roster.specs.Roster.{places, serial_size, first, no_place}
 use Rattle.roster.specs.Bytes.{place_size, roster_size, places_of}
-use Rattle.roster.specs.Inside.{place_in}
+use Rattle.roster.specs.Inside.{place_in, FirstFrom}
 use Rattle.roster.specs.declared.Place.{Place}
 use Rattle.roster.proofs.PlacesInBytes.{next_place, count_places}
 
@@ -36,6 +37,14 @@ serial_there roster k =
 
 -- ---- from place k to the next
 
+pub first_most : (test : Place → Bool) (ps : List Place) → first test ps ≤ length ps
+first_most test [] = omega arith
+first_most test (p ∷ ps) = go (test p) (first_most test ps)
+  where
+    go : (t : Bool) → first test ps ≤ length ps → cond t 0 (first test ps + 1) ≤ length (p ∷ ps)
+    go true h = omega arith
+    go false h = omega arith
+
 -- the search from one place on goes on from k
 abbrev pub Passed : (Place → Bool) → List ℕ → ℕ → ℕ → Type 0
 Passed test roster from k = from + first test (drop from (places_of roster)) ≡ k + first test (drop k (places_of roster))
@@ -44,20 +53,32 @@ module _ (test : Place → Bool) (roster : List ℕ) (sized : length roster ≡ 
   place_here : (k : ℕ) → k < places → drop k (places_of roster) ≡ place_in roster k ∷ drop (suc k) (places_of roster)
   place_here k l = next_place roster k (omega arith)
 
-  pub passed_here : (from k : ℕ) → k < places → Passed test roster from k → test (place_in roster k) ≡ true → k ≡ from + first test (drop from (places_of roster))
-  passed_here from k l p t = sym (p ∙ rw (place_here k l, t) (omega arith))
+  left : (from : ℕ) → length (drop from (places_of roster)) ≡ places - from
+  left from = length-drop from (places_of roster) ∙ ap (λ (n : ℕ). n - from) (count_places places roster sized)
+
+  pub passed_here : (from k : ℕ) → k < places → Passed test roster from k → test (place_in roster k) ≡ true → FirstFrom test (places_of roster) from (Some k)
+  passed_here from k l p t =
+      let here : from + first test (drop from (places_of roster)) ≡ k = p ∙ rw (place_here k l, t) (omega arith) in
+      let none : first test (drop from (places_of roster)) ≡ length (drop from (places_of roster)) → ⊥ = λ q. omega (arith, q, here, left from, l) in
+      (ne_eqb _ _ none, sym here)
 
   pub passed_more : (from k : ℕ) → k < places → Passed test roster from k → test (place_in roster k) ≡ false → Passed test roster from (k + 1)
   passed_more from k l p t = p ∙ rw (place_here k l, t, add-one k) (omega arith)
 
-  pub passed_all : (from k : ℕ) → places ≤ k → k ≤ places → Passed test roster from k → k ≡ from + first test (drop from (places_of roster))
-  passed_all from k l h p =
+  pub passed_all : (from k : ℕ) → from ≤ places → places ≤ k → k ≤ places → Passed test roster from k → FirstFrom test (places_of roster) from None
+  passed_all from k f l h p =
       let whole : k ≡ length (places_of roster) = (let e : k ≡ places = omega arith in e ∙ sym (count_places places roster sized)) in
-      sym (p ∙ rw whole (rw (drop-length (places_of roster)) (omega arith)))
+      let all : from + first test (drop from (places_of roster)) ≡ places = p ∙ rw whole (rw (drop-length (places_of roster)) (omega (arith, count_places places roster sized))) in
+      eq-eqb _ _ (let e : first test (drop from (places_of roster)) ≡ length (drop from (places_of roster)) = omega (arith, all, left from, f) in e)
 
-  -- the same, counted from the first place
-  pub passed_first : (k : ℕ) → k < places → Passed test roster 0 k → test (place_in roster k) ≡ true → k ≡ first test (places_of roster)
-  passed_first k l p t = passed_here 0 k l p t ∙ zero-add (first test (places_of roster))
+-- what was found stands inside the roster
+pub found_within : (test : Place → Bool) (roster : List ℕ) (from k : ℕ) → length roster ≡ roster_size → FirstFrom test (places_of roster) from (Some k) → k < places
+found_within test roster from k sized f =
+    let ps : List Place = drop from (places_of roster) in
+    let long : length ps ≡ places - from = length-drop from (places_of roster) ∙ ap (λ (n : ℕ). n - from) (count_places places roster sized) in
+    omega (arith, f.1, long, first_most test ps, eqb-false _ _ f.0)
 
-  pub passed_none : (k : ℕ) → places ≤ k → k ≤ places → Passed test roster 0 k → k ≡ first test (places_of roster)
-  passed_none k l h p = passed_all 0 k l h p ∙ zero-add (first test (places_of roster))
+-- whether nothing was found
+pub none_found : (test : Place → Bool) (ps : List Place) (from : ℕ) (r : Option ℕ) (t : Bool) → FirstFrom test ps from r → is_some r ≡ not t → t ≡ no_place test (drop from ps)
+none_found test ps from (Some k) t f e = not-true t (sym e) ∙ sym f.0
+none_found test ps from None t f e = not-false t (sym e) ∙ sym f

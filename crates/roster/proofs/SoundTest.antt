@@ -1,8 +1,8 @@
 -- The test for 18, place by place; and what a sound roster says of each place.
 -- Assumes nothing.
-use Prim.Native.Nat.{ℕ, suc, ◌+◌, ◌*◌, ◌-◌, ◌<◌}
+use Prim.Native.Nat.{ℕ, suc, ◌+◌, ◌*◌, ◌<◌}
 use mathlib.Core.Path.{◌≡◌, refl, sym, ap, ◌∙◌}
-use mathlib.Core.Bool.{Bool, true, false, not, ◌&&◌, and-true, not-not}
+use mathlib.Core.Bool.{Bool, true, false, not, ◌&&◌, and-true}
 use mathlib.Core.List.{List, [], ◌∷◌}
 use native.Mathlib.Numerals.{add-one}
 use native.Mathlib.Omega.{arith}
@@ -13,10 +13,12 @@ use borrow.Author.Tests.{eqb-true, eqb-false, eq-eqb, ne_eqb, not-false}
 use Rattle.numbers.specs.Lists.{same}
 use Rattle.numbers.proofs.Alike.{zero_is_one}
 use Rattle.numbers.proofs.TestLaws.{both}
-use Rattle.roster.specs.Roster.{places, serial_size, free_place, used, free, used_by, good, first, alone, sound, spoilt}
+use Rattle.roster.specs.Roster.{places, serial_size, free_place, used, free, used_by, good, no_place, alone, sound, spoilt}
 use Rattle.roster.specs.Bytes.{place_size, roster_size, places_of, Whole}
-use Rattle.roster.specs.Inside.{place_in, sound_at}
+use Rattle.std.specs.Prelude.{Option, is_some}
+use Rattle.roster.specs.Inside.{place_in, sound_at, FirstFrom}
 use Rattle.roster.specs.declared.Place.{Place}
+use Rattle.roster.proofs.SearchSteps.{none_found}
 use Rattle.roster.proofs.PlacesInBytes.{bytes_places, next_place, count_places, whole_bytes}
 
 -- ---- tests
@@ -34,17 +36,14 @@ module _ (b : List ℕ) (k : ℕ) (sized : length b ≡ roster_size) (inside : k
   serial_whole : length (place_in b k).serial ≡ serial_size
   serial_whole = length-take-le serial_size (drop (k * place_size + 1) b) (simp length-drop (omega arith))
 
-  pub behind : length (drop (suc k) (places_of b)) ≡ places - suc k
-  behind = length-drop (suc k) (places_of b) ∙ ap (λ (n : ℕ). n - suc k) (count_places places b sized)
-
-  pub sound_used : (r : ℕ) → get_or b (k * place_size) 0 ≡ 1 → r ≡ k + 1 + first (used_by (place_in b k).serial) (drop (k + 1) (places_of b))
-      → eqb r places ≡ sound_at b k
+  pub sound_used : get_or b (k * place_size) 0 ≡ 1 → (r : Option ℕ) (t : Bool) → FirstFrom (used_by (place_in b k).serial) (places_of b) (k + 1) r → is_some r ≡ not t
+      → t ≡ sound_at b k
   unfolding good alone used
-  sound_used r m e =
-      let f : ℕ = first (used_by (place_in b k).serial) (drop (suc k) (places_of b)) in
-      let q : r ≡ suc k + f = e ∙ rw (add-one k) refl in
-      let alike : eqb r places ≡ eqb f (places - suc k) = eqb_alike r places f (places - suc k) (λ (x : r ≡ places). omega (arith, q, x)) (λ (x : f ≡ places - suc k). omega (arith, q, x, inside)) in
-      alike ∙ simp (eq-eqb _ _ serial_whole, eq-eqb _ _ m, behind)
+  sound_used m r t f e =
+      let test : Place → Bool = used_by (place_in b k).serial in
+      none_found test (places_of b) (k + 1) r t f e
+      ∙ ap (λ (n : ℕ). no_place test (drop n (places_of b))) (add-one k)
+      ∙ simp (eq-eqb _ _ serial_whole, eq-eqb _ _ m)
 
   pub sound_neither : (get_or b (k * place_size) 0 ≡ 1 → ⊥) → (get_or b (k * place_size) 0 ≡ 0 → ⊥) → false ≡ sound_at b k
   unfolding good alone used free
@@ -98,9 +97,9 @@ other_size b h = go (spoilt (places_of b)) refl
         let f = not_spoilt (places_of b) e in
         absurd (h (sym (ap length (bytes_places b)) ∙ whole_bytes (places_of b) (sound_whole (places_of b) f.all) ∙ ap (λ (n : ℕ). n * place_size) f.count))
 
-pub this_size : (b : List ℕ) → length b ≡ roster_size → not (spoilt (places_of b)) ≡ sound (places_of b)
+pub this_size : (b : List ℕ) → length b ≡ roster_size → spoilt (places_of b) ≡ not (sound (places_of b))
 unfolding spoilt
-this_size b e = simp (eq-eqb _ _ (count_places places b e)) (not-not (sound (places_of b)))
+this_size b e = simp (eq-eqb _ _ (count_places places b e))
 
 -- a roster that is not spoilt has the size
 pub fine_size : (b : List ℕ) → spoilt (places_of b) ≡ false → length b ≡ roster_size

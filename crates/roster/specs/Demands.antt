@@ -1,16 +1,13 @@
 -- What the calls owe each other and their callers, over their own promises.
-use Rattle.std.specs.Prelude.{ℕ, zero, suc, ◌*◌, ◌-◌, ◌≤◌, ◌<◌, ◌≡◌, ◌↔◌, true, false, List, [], ◌∷◌, ◌++◌, map, length, get_or, take, drop, replicate}
+use Rattle.std.specs.Prelude.{ℕ, zero, suc, ◌*◌, ◌-◌, ◌≤◌, ◌<◌, ◌≡◌, ◌↔◌, true, false, List, [], ◌∷◌, ◌++◌, map, length, get_or, take, drop, replicate, Some, None, Ok, Err}
 use Rattle.answers.specs.Answer.{Answer, answer, number}
 use Rattle.answers.specs.Refusal.{refused}
 use Rattle.answers.specs.declared.Refusal.{Refusal}
 use Rattle.answers.specs.declared.Refusal.TheVariants.{RosterFull}
 use Rattle.roster.specs.Roster.{places, serial_size, free_place, free, spoilt}
 use Rattle.roster.specs.Bytes.{place_size, roster_size, places_of}
-use Rattle.roster.specs.Calls.{told_given, told_removed, told_found, IsGiven, IsRemoved, IsFound}
+use Rattle.roster.specs.Calls.{Given, Removed, Found, told_given, told_removed, told_found, IsGiven, IsRemoved, IsFound}
 use Rattle.roster.specs.declared.Place.{Place}
-use Rattle.roster.specs.declared.Given.{Given}
-use Rattle.roster.specs.declared.Removed.{Removed}
-use Rattle.roster.specs.declared.Found.{Found}
 
 -- Giving, then finding, gives that address.
 abbrev pub GivenIsFound : Type 0
@@ -19,7 +16,7 @@ GivenIsFound =
     → IsGiven roster serial g later
     → told_given g ≡ answer 0 (address ∷ [])
     → IsFound later serial f
-    → f ≡ Found.Address address
+    → f ≡ Ok (Some address)
 
 -- Giving twice gives the same, and the second time changes nothing.
 abbrev pub GivenTwice : Type 0
@@ -59,17 +56,17 @@ RemovedIsGiven =
 abbrev pub RemovedIsGone : Type 0
 RemovedIsGone =
     (roster serial later : List ℕ) (address : ℕ) (r : Removed) (f : Found)
-    → IsFound roster serial (Found.Address address)
+    → IsFound roster serial (Ok (Some address))
     → IsRemoved roster address r later
     → IsFound later serial f
-    → (r ≡ Removed.Done) × (f ≡ Found.NoAddress)
+    → (r ≡ Ok tt) × (f ≡ Ok None)
 
 -- Giving to one serial, or removing an address, leaves every other serial where it was: what is found of it is the same before and after.
 pub record OthersStay : Type 0 where
   pub given : (roster serial other later : List ℕ) (g : Given) (f h : Found)
       → (other ≡ serial → ⊥) → IsGiven roster serial g later → IsFound roster other f → IsFound later other h → h ≡ f
   pub removed : (roster other later : List ℕ) (address : ℕ) (r : Removed) (f h : Found)
-      → (f ≡ Found.Address address → ⊥) → IsRemoved roster address r later → IsFound roster other f → IsFound later other h → h ≡ f
+      → (f ≡ Ok (Some address) → ⊥) → IsRemoved roster address r later → IsFound roster other f → IsFound later other h → h ≡ f
 
 -- the place of an address has this content afterwards, and every byte before and behind it is as it was
 pub record OnlyAt (address : ℕ) (content roster later : List ℕ) : Type 0 where
@@ -80,8 +77,8 @@ pub record OnlyAt (address : ℕ) (content roster later : List ℕ) : Type 0 whe
 
 -- Only the one place changes: giving marks it as used by the serial, and removing zeroes it.
 pub record OnlyOnePlace : Type 0 where
-  pub given : (roster serial later : List ℕ) (address : ℕ) → IsGiven roster serial (Given.Address address) later → OnlyAt address (1 ∷ serial) roster later
-  pub removed : (roster later : List ℕ) (address : ℕ) → IsRemoved roster address Removed.Done later → OnlyAt address (replicate place_size 0) roster later
+  pub given : (roster serial later : List ℕ) (address : ℕ) → IsGiven roster serial (Ok address) later → OnlyAt address (1 ∷ serial) roster later
+  pub removed : (roster later : List ℕ) (address : ℕ) → IsRemoved roster address (Ok tt) later → OnlyAt address (replicate place_size 0) roster later
 
 -- all bytes zero: every place is free
 abbrev pub fresh_roster : List ℕ
@@ -135,5 +132,5 @@ pub record StaysWellFormed : Type 0 where
 
 -- With a refusal the roster is as it was.
 pub record Kept : Type 0 where
-  pub given : (roster serial later : List ℕ) (why : Refusal) → IsGiven roster serial (Given.Refused why) later → later ≡ roster
-  pub removed : (roster later : List ℕ) (address : ℕ) (why : Refusal) → IsRemoved roster address (Removed.Refused why) later → later ≡ roster
+  pub given : (roster serial later : List ℕ) (why : Refusal) → IsGiven roster serial (Err why) later → later ≡ roster
+  pub removed : (roster later : List ℕ) (address : ℕ) (why : Refusal) → IsRemoved roster address (Err why) later → later ≡ roster

@@ -1,4 +1,4 @@
-pub mod CopiesByByte
-pub mod PlansDecide
+pub mod PlacesGathered
+pub mod BytesDecide
 pub mod One
 pub mod Demands

@@ -2,11 +2,8 @@
 -- the rule of the roster, as it stands.
 use Rattle.std.specs.Prelude.{ℕ, ◌≡◌, List}
 use Rattle.roster.specs.Roster.{giving, removing, finding}
-use Rattle.roster.specs.Calls.{told_given, told_removed, told_found, AddressNotZero}
+use Rattle.roster.specs.Calls.{Given, Removed, Found, told_given, told_removed, told_found, AddressNotZero}
 use Rattle.roster.specs.declared.Place.{Place}
-use Rattle.roster.specs.declared.Given.{Given}
-use Rattle.roster.specs.declared.Removed.{Removed}
-use Rattle.roster.specs.declared.Found.{Found}
 
 -- `give`
 abbrev pub IsGiven : List Place → List ℕ → Given → List Place → Type 0

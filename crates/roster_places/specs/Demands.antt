@@ -1,11 +1,9 @@
 -- Both forms of the roster give the same answers, and leave the same roster: what is demanded of the one holds of the other.
 use Rattle.std.specs.Prelude.{ℕ, ◌≡◌, List}
 use Rattle.roster.specs.Bytes.{bytes_of, Whole}
+use Rattle.roster.specs.Calls.{Given, Removed, Found}
 use Rattle.roster.specs.Calls as Bytes
 use Rattle.roster.specs.declared.Place.{Place}
-use Rattle.roster.specs.declared.Given.{Given}
-use Rattle.roster.specs.declared.Removed.{Removed}
-use Rattle.roster.specs.declared.Found.{Found}
 use Rattle.roster_places.specs.Calls.{IsGiven, IsRemoved, IsFound}
 
 -- over places, and over the bytes that hold them

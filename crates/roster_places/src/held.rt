@@ -3,48 +3,39 @@
 ghost use Rattle.roster_places.specs.Calls.{IsGiven, IsRemoved, IsFound};
 
 use crate::{find, give, remove};
-use roster::{Found, Given, PLACES, Place, Removed};
+use answers::Refusal;
+use roster::{PLACES, Place};
 
-// What giving came to, and the places now.
+// What a call came to, and the places now.
 #[derive(Drop)]
-pub struct HeldGiven {
+pub struct Held<T> {
     pub places: [Place; PLACES],
-    pub given: Given,
-}
-
-// What removing came to, and the places now.
-#[derive(Drop)]
-pub struct HeldRemoved {
-    pub places: [Place; PLACES],
-    pub removed: Removed,
+    pub told: Result<T, Refusal>,
 }
 
 // Gives a serial an address, as `give` does.
-pub fn give_held(places: [Place; PLACES], serial: &[u8]) -> HeldGiven
-    ensures { IsGiven places serial.now result.given result.places }
+pub fn give_held(places: [Place; PLACES], serial: &[u8]) -> Held<u8>
+    ensures { IsGiven places serial.now result.told result.places }
 {
     let mut later = places;
-    let given = give(&mut later, serial);
-    HeldGiven {
+    let told = give(&mut later, serial);
+    Held {
         places: later,
-        given,
+        told,
     }
 }
 
 // Frees the place of an address, as `remove` does.
-pub fn remove_held(places: [Place; PLACES], address: u8) -> HeldRemoved
-    ensures { IsRemoved places address result.removed result.places }
+pub fn remove_held(places: [Place; PLACES], address: u8) -> Held<()>
+    ensures { IsRemoved places address result.told result.places }
 {
     let mut left = places;
-    let removed = remove(&mut left, address);
-    HeldRemoved {
-        places: left,
-        removed,
-    }
+    let told = remove(&mut left, address);
+    Held { places: left, told }
 }
 
 // The address of a serial, as `find` tells it.
-pub fn find_held(places: [Place; PLACES], serial: &[u8]) -> Found
+pub fn find_held(places: [Place; PLACES], serial: &[u8]) -> Result<Option<u8>, Refusal>
     ensures { IsFound places serial.now result }
 {
     find(&places, serial)

@@ -1,35 +1,19 @@
-// The roster of addresses, over a lent slice of 254 structs. A function over the slice only takes it apart and puts it together:
+// The roster of addresses, over a lent slice of 254 structs. A function over the slice only takes it apart and puts one place back:
 // what is to be done is decided over its bytes, by `roster`. `held` is the same over places by value.
 #![tactic(auto)]
 
 pub mod held;
 
-ghost use Rattle.std.specs.Prelude.{◌≡◌, ◌+◌, ◌≤◌, ◌<◌, length, get_or, set, take, drop};
+ghost use Rattle.std.specs.Prelude.{◌≡◌, ◌+◌, ◌≤◌, ◌<◌, length, set, take, drop};
 ghost use Rattle.roster.specs.Roster.{places, serial_size, free_place};
 ghost use Rattle.roster.specs.Bytes.{roster_size, places_of};
 ghost use Rattle.roster.specs.Inside.{place_in};
 ghost use Rattle.roster_places.specs.Calls.{IsGiven, IsRemoved, IsFound};
-ghost use Rattle.roster_places.specs.Inside.{PlansGive, PlansRemove, PlansFind};
+ghost use Rattle.roster_places.specs.Inside.{IsGathered};
 
 use answers::Refusal;
-pub use held::{HeldGiven, HeldRemoved, find_held, give_held, remove_held};
-use roster::{Found, Given, PLACE_SIZE, PLACES, Place, ROSTER_SIZE, Removed, SERIAL_SIZE};
-
-// What giving comes to: the answer, and the one place that is written, none where `at` lies past the last.
-#[derive(Clone, Copy)]
-struct GivePlan {
-    at: usize,
-    place: Place,
-    given: Given,
-}
-
-// What removing comes to, likewise.
-#[derive(Clone, Copy)]
-struct RemovePlan {
-    at: usize,
-    place: Place,
-    removed: Removed,
-}
+pub use held::{Held, find_held, give_held, remove_held};
+use roster::{PLACE_SIZE, PLACES, Place, ROSTER_SIZE, SERIAL_SIZE};
 
 // A free place.
 fn free() -> Place
@@ -41,58 +25,30 @@ fn free() -> Place
     }
 }
 
-// Place k, or `other` past the end.
-fn look(ps: &[Place], k: usize, other: Place) -> Place
-    ensures { result ≡ get_or ps.now k other }
-{
-    if k < ps.len() { ps[k] } else { other }
-}
-
-// Place k is set, where there is one.
-fn put(ps: &mut [Place], k: usize, p: Place)
-    ensures { ps.new ≡ set ps.old k p }
-{
-    if k < ps.len() {
-        ps[k] = p;
-    }
-}
-
-// Bytes to gather into.
-fn blank() -> [u8; ROSTER_SIZE] {
-    [0; ROSTER_SIZE]
-}
-
-// The bytes with place k set.
-fn with(all: [u8; ROSTER_SIZE], k: usize, p: Place) -> [u8; ROSTER_SIZE]
+// Writes place k into a roster's bytes. `roster` keeps its own `put` inside, since a public one would require something of its callers.
+fn put(all: &mut [u8; ROSTER_SIZE], k: usize, place: Place)
     requires { k < places }
-    ensures { places_of result ≡ set (places_of all) k p }
+    ensures { places_of all.new ≡ set (places_of all.old) k place }
 {
-    let mut out = all;
     let at = k * PLACE_SIZE;
     let from = at + 1;
-    let s = p.serial;
-    out[at] = p.mark;
-    let mut i: usize = 0;
-    while i < SERIAL_SIZE {
-        out[from + i] = s[i];
-        i += 1;
-    }
-    out
+    let serial = place.serial;
+    all[at] = place.mark;
+    all[from..from + SERIAL_SIZE].copy_from_slice(&serial);
 }
 
-// The bytes of the places, where there are 254.
-fn gather(ps: &[Place]) -> [u8; ROSTER_SIZE]
-    ensures { length ps.now ≡ places → places_of result ≡ ps.now }
+// The bytes of the places, or 18 where there are not 254.
+fn gather(ps: &[Place]) -> Result<[u8; ROSTER_SIZE], Refusal>
+    ensures { IsGathered ps.now result }
 {
-    let mut all = blank();
-    let other = free();
-    let mut i = 0;
-    while i < PLACES {
-        let next = with(all, i, look(ps, i, other));
-        all = next;
-        i += 1;
+    if ps.len() != PLACES {
+        return Err(Refusal::Spoilt);
     }
-    all
+    let mut all = [0; ROSTER_SIZE];
+    for (k, place) in ps.iter().enumerate() {
+        put(&mut all, k, *place);
+    }
+    Ok(all)
 }
 
 // The 16 bytes from `at` on.
@@ -100,13 +56,9 @@ fn serial_in(b: &[u8], at: usize) -> [u8; SERIAL_SIZE]
     requires { at + serial_size ≤ length b.now }
     ensures { result ≡ take serial_size (drop at b.now) }
 {
-    let mut s = [0; SERIAL_SIZE];
-    let mut i: usize = 0;
-    while i < SERIAL_SIZE {
-        s[i] = b[at + i];
-        i += 1;
-    }
-    s
+    let mut serial = [0; SERIAL_SIZE];
+    serial.copy_from_slice(&b[at..at + SERIAL_SIZE]);
+    serial
 }
 
 // Place k of a roster's bytes.
@@ -115,122 +67,37 @@ fn place_in(b: &[u8], k: usize) -> Place
     ensures { result ≡ place_in b.now k }
 {
     let at = k * PLACE_SIZE;
-    let serial = serial_in(b, at + 1);
-    let mark = b[at];
-    Place { mark, serial }
-}
-
-// What giving does to n places, whose bytes are `all` where n is 254.
-fn plan_give(n: usize, all: [u8; ROSTER_SIZE], serial: &[u8]) -> GivePlan
-    ensures { PlansGive n all serial.now result }
-{
-    let f = free();
-    if n != PLACES {
-        return GivePlan {
-            at: n,
-            place: f,
-            given: Given::Refused(Refusal::Spoilt),
-        };
-    }
-    let mut b = all;
-    let given = roster::give(&mut b, serial);
-    match given {
-        Given::Address(address) => {
-            let at = address as usize - 1;
-            let place = place_in(&b, at);
-            GivePlan {
-                at,
-                place,
-                given: Given::Address(address),
-            }
-        }
-        Given::Refused(why) => GivePlan {
-            at: n,
-            place: f,
-            given: Given::Refused(why),
-        },
+    Place {
+        mark: b[at],
+        serial: serial_in(b, at + 1),
     }
 }
 
-// What removing does to them.
-fn plan_remove(n: usize, all: [u8; ROSTER_SIZE], address: u8) -> RemovePlan
-    ensures { PlansRemove n all address result }
-{
-    let f = free();
-    if n != PLACES {
-        return RemovePlan {
-            at: n,
-            place: f,
-            removed: Removed::Refused(Refusal::Spoilt),
-        };
-    }
-    let mut b = all;
-    let removed = roster::remove(&mut b, address);
-    match removed {
-        Removed::Done => RemovePlan {
-            at: address as usize - 1,
-            place: f,
-            removed: Removed::Done,
-        },
-        Removed::Refused(why) => RemovePlan {
-            at: n,
-            place: f,
-            removed: Removed::Refused(why),
-        },
-    }
-}
-
-// What finding tells of them.
-fn plan_find(n: usize, all: [u8; ROSTER_SIZE], serial: &[u8]) -> Found
-    ensures { PlansFind n all serial.now result }
-{
-    if n != PLACES {
-        return Found::Refused(Refusal::Spoilt);
-    }
-    roster::find(&all, serial)
-}
-
-// The answer that a plan has.
-fn given_of(plan: GivePlan) -> Given
-    ensures { result ≡ plan.given }
-{
-    plan.given
-}
-
-// The answer that a plan has, likewise.
-fn removed_of(plan: RemovePlan) -> Removed
-    ensures { result ≡ plan.removed }
-{
-    plan.removed
-}
-
-// Gives a serial an address: the one that it has, else the lowest free one.
-pub fn give(ps: &mut [Place], serial: &[u8]) -> Given
+// Gives a serial an address: the one that it has, else the lowest free one. With a refusal the places are as they were.
+pub fn give(ps: &mut [Place], serial: &[u8]) -> Result<u8, Refusal>
     ensures { IsGiven ps.old serial.now result ps.new }
 {
-    let n = ps.len();
-    let all = gather(&*ps);
-    let plan = plan_give(n, all, serial);
-    put(ps, plan.at, plan.place);
-    given_of(plan)
+    let mut later = gather(&*ps)?;
+    let address = roster::give(&mut later, serial)?;
+    let k = address as usize - 1;
+    ps[k] = place_in(&later, k);
+    Ok(address)
 }
 
-// Frees the place of an address.
-pub fn remove(ps: &mut [Place], address: u8) -> Removed
+// Frees the place of an address. With a refusal the places are as they were.
+pub fn remove(ps: &mut [Place], address: u8) -> Result<(), Refusal>
     ensures { IsRemoved ps.old address result ps.new }
 {
-    let n = ps.len();
-    let all = gather(&*ps);
-    let plan = plan_remove(n, all, address);
-    put(ps, plan.at, plan.place);
-    removed_of(plan)
+    let mut left = gather(&*ps)?;
+    roster::remove(&mut left, address)?;
+    ps[address as usize - 1] = free();
+    Ok(())
 }
 
-// The address of a serial.
-pub fn find(ps: &[Place], serial: &[u8]) -> Found
+// The address of a serial, where it has one.
+pub fn find(ps: &[Place], serial: &[u8]) -> Result<Option<u8>, Refusal>
     ensures { IsFound ps.now serial.now result }
 {
-    let n = ps.len();
-    let all = gather(ps);
-    plan_find(n, all, serial)
+    let all = gather(ps)?;
+    roster::find(&all, serial)
 }

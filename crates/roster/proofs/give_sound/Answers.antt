@@ -1,37 +1,24 @@
 -- `give_sound` meets its promise: there, full, or new.
-use native.Mathlib.Omega.{arith}
-use Rattle.roster.specs.Roster.{places, free}
-use Rattle.roster.specs.Bytes.{places_of}
-use Rattle.roster.proofs.PlacesInBytes.{count_places}
-use Rattle.roster.proofs.CallEnds.{first_most, give_kept, give_full, give_new}
+use Rattle.roster.specs.Roster.{used_by, free}
+use Rattle.roster.proofs.SearchSteps.{found_within}
+use Rattle.roster.proofs.CallEnds.{give_kept, give_full, give_new}
 use Rattle.roster.proofs.give_sound.Goals as goal
 
-pub returns-then-k-lt-PLACES : goal.returns-then-k-lt-PLACES
-returns-then-k-lt-PLACES c =
-    give_kept c.args.roster.now c.args.serial.now c.requires.0 c.user-k.result c.user-k.ensures c.if-k-lt-PLACES.true
+pub address_of-requires : goal.address_of-requires
+address_of-requires c = found_within (used_by c.args.serial.now) c.args.roster.now 0 c.in-Some.k c.requires.0 c.in-Some.ensures
 
-pub returns-then-lowest-eq-PLACES : goal.returns-then-lowest-eq-PLACES
-returns-then-lowest-eq-PLACES c =
-    give_full c.args.roster.now c.args.serial.now c.requires.0 c.user-k.result c.lowest_free-lowest.result c.user-k.ensures c.if-k-lt-PLACES.false c.lowest_free-lowest.ensures c.if-lowest-eq-PLACES.true
+pub returns-in-Some : goal.returns-in-Some
+returns-in-Some c = rw c.address_of.ensures (give_kept c.args.roster.now c.args.serial.now c.in-Some.k c.in-Some.ensures)
+
+pub returns-in_default-lowest_free : goal.returns-in_default-lowest_free
+returns-in_default-lowest_free c = give_full c.args.roster.now c.args.serial.now c.in_default.ensures c.in_default-lowest_free.ensures
 
 pub put-requires : goal.put-requires
-put-requires c =
-    let b = c.args.roster.now in (
-      c.requires.0,
-      omega (arith, c.if-lowest-eq-PLACES.false, c.lowest_free-lowest.ensures, first_most free (places_of b), count_places places b c.requires.0),
-      c.requires.1,
-    )
+put-requires c = (c.requires.0, found_within free c.args.roster.now 0 c.in-Some-lowest_free.lowest c.requires.0 c.in-Some-lowest_free.ensures, c.requires.1)
 
-pub overflow_add-result-2 : goal.overflow_add-result-2
-overflow_add-result-2 c =
-    let b = c.args.roster.now in
-    record { fits = omega (arith, c.if-lowest-eq-PLACES.false, c.lowest_free-lowest.ensures, first_most free (places_of b), count_places places b c.requires.0) }
-
-pub overflow_cast-result-2 : goal.overflow_cast-result-2
-overflow_cast-result-2 c =
-    let b = c.args.roster.now in
-    record { fits = omega (arith, c.if-lowest-eq-PLACES.false, c.lowest_free-lowest.ensures, first_most free (places_of b), count_places places b c.requires.0) }
+pub address_of-requires-2 : goal.address_of-requires-2
+address_of-requires-2 c = found_within free c.args.roster.now 0 c.in-Some-lowest_free.lowest c.requires.0 c.in-Some-lowest_free.ensures
 
 pub returns : goal.returns
 returns c =
-    give_new c.args.roster.now c.args.serial.now c.requires.0 c.user-k.result c.lowest_free-lowest.result _ c.user-k.ensures c.if-k-lt-PLACES.false c.lowest_free-lowest.ensures c.if-lowest-eq-PLACES.false c.put.ensures
+    rw c.address_of-2.ensures (give_new c.args.roster.now c.args.serial.now c.in-Some-lowest_free.lowest _ c.in_default.ensures c.in-Some-lowest_free.ensures c.put.ensures)
