@@ -1,5 +1,6 @@
 -- What a caller counts on: how long each line is at most, and what a call leaves where there is room.
 -- Assumes nothing.
+use Rattle.std.specs.Prelude.{Ok}
 use Prim.Native.Nat.{ℕ, ◌+◌, ◌*◌, ◌≤◌, ◌<◌}
 use mathlib.Core.Path.{◌≡◌, refl}
 use mathlib.Core.Bool.{Bool, false}
@@ -8,8 +9,7 @@ use lib.ListN.{length, drop}
 use borrow.Author.Tests.{le-ltb}
 use native.Mathlib.Omega.{arith}
 use Rattle.answers.specs.Written.{Writes}
-use Rattle.answers.specs.declared.Written.{Written}
-use Rattle.answers.specs.declared.Written.TheVariants.{Done}
+use Rattle.answers.specs.Written.{Written}
 use Rattle.answers.proofs.WriterPromise.{writes_one, writes_done}
 use Rattle.listing_text.specs.Lines.{decimal, title_line, Shown, message_line, damage_line, stop_line, end_line, field_max, too_long}
 use Rattle.listing_text.proofs.FieldLengths.{width_most, decimal_8, decimal_10, decimal_64, message_length_lem, damage_length, stop_length, end_length}
@@ -45,6 +45,6 @@ not_too_long m f t c b =
 
 -- the line stands at the front, and its length is told: of every call here, each promise being `Writes` of its line
 pub line_written : (long : Bool) (line lent later : List ℕ) (w : Written) → Writes long line lent w later → long ≡ false → length line ≤ length lent
-    → (w ≡ Done (length line)) × (later ≡ line ++ drop (length line) lent)
+    → (w ≡ Ok (length line)) × (later ≡ line ++ drop (length line) lent)
 line_written long line lent later w x e room =
-    writes_one false line lent later (line ++ drop (length line) lent) w (Done (length line)) (rw e at x) (writes_done line lent room)
+    writes_one false line lent later (line ++ drop (length line) lent) w (Ok (length line)) (rw e at x) (writes_done line lent room)

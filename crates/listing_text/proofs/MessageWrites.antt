@@ -1,6 +1,7 @@
 -- The line of a message by its two tests, and by its fields put one behind the other: one law each, over the four lists, for every function that
 -- writes such a line.
 -- Assumes nothing.
+use Rattle.std.specs.Prelude.{Ok, Err}
 use Prim.Native.Nat.{ℕ, ◌≤◌}
 use mathlib.Core.Path.{◌≡◌, refl, sym, ◌∙◌}
 use mathlib.Core.Bool.{Bool, true, false, ◌||◌}
@@ -12,7 +13,6 @@ use native.Mathlib.Omega.{arith}
 use Rattle.numbers.proofs.Alike.{zero_is_one}
 use Rattle.answers.specs.Written.{Writes}
 use Rattle.answers.specs.declared.Refusal.TheVariants.{NoRoom}
-use Rattle.answers.specs.declared.Written.TheVariants.{Done, Refused}
 use Rattle.answers.proofs.WriterPromise.{writes_too_long, writes_no_room}
 use Rattle.listing_text.specs.Lines.{field, field_max, Shown, too_long, message_line, IsMessage}
 use Rattle.listing_text.specs.Inside.{line_length, refused_for, start, before_code, Put}
@@ -45,13 +45,13 @@ line_join port m l c d e r s t x h k =
 
 -- refused with 9
 message_no_room : (port : ℕ) (m : Shown) (lent : List ℕ) → too_long m ≡ false → ltb (length lent) (message_length port m) ≡ true
-    → IsMessage port m lent (Refused NoRoom) lent
+    → IsMessage port m lent (Err NoRoom) lent
 message_no_room port m lent e h =
     rw e (writes_no_room (message_line port m) lent (omega (arith, message_length_lem port m, ltb-true (length lent) (message_length port m) h)))
 
 -- written
 message_written : (port : ℕ) (m : Shown) (lent later : List ℕ) (r : ℕ) → too_long m ≡ false → ltb (length lent) (message_length port m) ≡ false
-    → Put lent 0 (message_line port m) r later → IsMessage port m lent (Done r) later
+    → Put lent 0 (message_line port m) r later → IsMessage port m lent (Ok r) later
 message_written port m lent later r e h put =
     rw e
     (written lent later (message_line port m) (message_line port m) r refl (omega (arith, message_length_lem port m, ltb-false (length lent) (message_length port m) h)) put)
@@ -78,7 +78,7 @@ first true u x = x
 first false u x = refl
 
 pub message_fits : (port : ℕ) (m : Shown) (lent later : List ℕ) (r : ℕ) → (too_long m || ltb (length lent) (message_length port m)) ≡ false
-    → Put lent 0 (message_line port m) r later → IsMessage port m lent (Done r) later
+    → Put lent 0 (message_line port m) r later → IsMessage port m lent (Ok r) later
 message_fits port m lent later r x put =
     let long = too_long m in
     let short = ltb (length lent) (message_length port m) in

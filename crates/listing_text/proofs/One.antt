@@ -4,7 +4,7 @@ use Prim.Native.Nat.{ℕ}
 use mathlib.Core.Path.{◌≡◌}
 use mathlib.Core.Bool.{false}
 use mathlib.Core.List.{List}
-use Rattle.answers.specs.declared.Written.{Written}
+use Rattle.answers.specs.Written.{Written}
 use Rattle.answers.proofs.WriterPromise.{writes_one}
 use Rattle.listing_text.specs.Lines.{title_line, Shown, message_line, damage_line, stop_line, end_line, too_long, IsTitle, IsMessage, IsDamage, IsStop, IsEnd}
 

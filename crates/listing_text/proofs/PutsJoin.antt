@@ -1,6 +1,7 @@
 -- What is put one behind the other is put as one; put at the front, it is written.
 -- Assumes nothing.
-use Prim.Native.Nat.{ℕ, suc, ◌+◌, ◌/◌, ◌%◌, ◌≤◌, ◌<◌}
+use Rattle.std.specs.Prelude.{Ok}
+use Prim.Native.Nat.{ℕ, suc, ◌+◌, ◌*◌, ◌/◌, ◌%◌, ◌≤◌, ◌<◌}
 use mathlib.Core.Path.{◌≡◌, refl, sym, ap, subst, ◌∙◌}
 use mathlib.Core.Bool.{false}
 use mathlib.Core.List.{List, [], ◌∷◌, ◌++◌}
@@ -11,7 +12,6 @@ use native.Mathlib.Nat.{add-zero, zero-add, add-suc, suc-add}
 use native.Mathlib.Numerals.{add-one}
 use native.Mathlib.Omega.{arith}
 use Rattle.answers.specs.Written.{Writes}
-use Rattle.answers.specs.declared.Written.TheVariants.{Done}
 use Rattle.answers.proofs.WriterPromise.{writes_done}
 use Rattle.listing_text.specs.Lines.{hex_digit, hex}
 use Rattle.listing_text.specs.Inside.{Put}
@@ -35,23 +35,31 @@ and l m a at p v x = then l m (set m p v) a (v ∷ []) at p (p + 1) x (refl, ref
 pub put_front : (l text : List ℕ) → length text ≤ length l → sets l 0 text ≡ text ++ drop (length text) l
 put_front l text room = sets-eq text l 0 (omega arith) ∙ ap (λ (k : ℕ). text ++ drop k l) (zero-add (length text))
 
-pub written : (l m text other : List ℕ) (r : ℕ) → text ≡ other → length other ≤ length l → Put l 0 text r m → Writes false other l (Done r) m
+pub written : (l m text other : List ℕ) (r : ℕ) → text ≡ other → length other ≤ length l → Put l 0 text r m → Writes false other l (Ok r) m
 written l m text other r e room x =
     let whole : m ≡ other ++ drop (length other) l = x.1 ∙ ap (λ (t : List ℕ). sets l 0 t) e ∙ put_front l other room in
     let long : length other ≡ r = ap length (sym e) ∙ sym (x.0 ∙ zero-add (length text)) in
-    subst (λ (k : List ℕ). Writes false other l (Done r) k) (sym whole)
-    (subst (λ (k : ℕ). Writes false other l (Done k) (other ++ drop (length other) l)) long (writes_done other l room))
+    subst (λ (k : List ℕ). Writes false other l (Ok r) k) (sym whole)
+    (subst (λ (k : ℕ). Writes false other l (Ok k) (other ++ drop (length other) l)) long (writes_done other l room))
 
 -- the two digits of a byte
 pub digits_put : (l : List ℕ) (at b : ℕ) → Put l at (hex (b ∷ [])) (at + 2) (set (set l at (hex_digit (b / 16))) (at + 1) (hex_digit (b % 16)))
 digits_put l at b = (refl, rw (add-one at))
 
 -- two digits, and what is left
-pub two : (bs l : List ℕ) (i p : ℕ) → i < length bs
+two : (bs l : List ℕ) (i p : ℕ) → i < length bs
     → sets (set (set l p (hex_digit (get_or bs i 0 / 16))) (p + 1) (hex_digit (get_or bs i 0 % 16))) (p + 2) (hex (drop (i + 1) bs)) ≡ sets l p (hex (drop i bs))
 two bs l i p h =
     let next : p + 2 ≡ suc (suc p) = omega arith in
     rw (drop-cons bs i 0, add-one i, add-one p, next)
+
+-- the same where the i bytes before stand from `at` on
+pub two_more : (bs l : List ℕ) (i at : ℕ) → i < length bs
+    → sets (set (set l (at + 2 * i) (hex_digit (get_or bs i 0 / 16))) (at + 2 * i + 1) (hex_digit (get_or bs i 0 % 16))) (at + 2 * (i + 1)) (hex (drop (i + 1) bs))
+    ≡ sets l (at + 2 * i) (hex (drop i bs))
+two_more bs l i at h =
+    let next : at + 2 * (i + 1) ≡ at + 2 * i + 2 = omega arith in
+    rw next (two bs l i (at + 2 * i) h)
 
 -- a whole list copied to the front
 pub copied : (l m src : List ℕ) → length src ≤ length l → m ≡ src → put_mid 0 (length src) l m ≡ sets l 0 src

@@ -1,9 +1,8 @@
 -- Need not be read: no public promise cites this. It is what the inner functions promise.
-use Rattle.std.specs.Prelude.{ℕ, zero, suc, ◌+◌, ◌*◌, ◌≡◌, Bool, cond, List, [], ◌∷◌, ◌++◌, length, eqb}
+use Rattle.std.specs.Prelude.{ℕ, zero, suc, ◌+◌, ◌*◌, ◌≡◌, Bool, cond, List, [], ◌∷◌, ◌++◌, length, eqb, Err}
 use Rattle.std.proofs.lemmas.List.Edits.{sets}
 use Rattle.answers.specs.declared.Refusal.TheVariants.{TooLong, NoRoom}
-use Rattle.answers.specs.declared.Written.{Written}
-use Rattle.answers.specs.declared.Written.TheVariants.{Refused}
+use Rattle.answers.specs.Written.{Written}
 use Rattle.listing_text.specs.Lines.{hex_digit, field, decimal}
 
 -- `width`: the bytes that the field of n bytes takes
@@ -31,7 +30,7 @@ line_length port three n = length (decimal port) + three + width_of n + 7
 
 -- `refusal`
 abbrev pub refused_for : (too_long : Bool) → Written
-refused_for too_long = cond too_long (Refused TooLong) (Refused NoRoom)
+refused_for too_long = cond too_long (Err TooLong) (Err NoRoom)
 
 -- `put_start`
 abbrev pub start : (port : ℕ) → List ℕ

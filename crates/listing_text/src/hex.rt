@@ -1,5 +1,5 @@
 // A list of bytes as a field of a line.
-ghost use Rattle.std.specs.Prelude.{◌≡◌, ◌+◌, ◌*◌, ◌/◌, ◌%◌, ◌≤◌, ◌<◌, [], ◌∷◌, ◌++◌, length, drop};
+ghost use Rattle.std.specs.Prelude.{◌≡◌, ◌+◌, ◌*◌, ◌/◌, ◌%◌, ◌≤◌, ◌<◌, [], ◌∷◌, ◌++◌, length};
 ghost use Rattle.listing_text.specs.Lines.{hex_digit, hex, field, field_max};
 ghost use Rattle.listing_text.specs.Inside.{width_of, width_max, hex_digits, Put};
 
@@ -38,16 +38,11 @@ fn put_hex(bytes: &[u8], lent: &mut [u8], at: usize) -> usize
     requires { at + 2 * length bytes.now ≤ length lent.old }
     ensures { Put lent.old at (hex bytes.now) result lent.new }
 {
-    let mut i = 0;
-    let mut p = at;
-    while i < bytes.len() {
-        let b = bytes[i];
-        lent[p] = high(b);
-        lent[p + 1] = low(b);
-        p += 2;
-        i += 1;
+    for (i, &b) in bytes.iter().enumerate() {
+        lent[at + 2 * i] = high(b);
+        lent[at + 2 * i + 1] = low(b);
     }
-    p
+    at + 2 * bytes.len()
 }
 
 // The digits in order, for what is too short for that.
@@ -73,21 +68,17 @@ fn low_of(t: &[u8; 16], b: u8) -> u8
     t[(b % 16) as usize]
 }
 
-// The bytes from index `from` on, by the table of digits.
-fn put_rest(bytes: &[u8], from: usize, t: &[u8; 16], lent: &mut [u8], at: usize) -> usize
-    requires { (t.now ≡ hex_digits) × (from ≤ length bytes.now) × (at + 2 * length bytes.now ≤ length lent.old + 2 * from) }
-    ensures { Put lent.old at (hex (drop from bytes.now)) result lent.new }
+// The same by the table of digits.
+fn put_few(bytes: &[u8], lent: &mut [u8], at: usize) -> usize
+    requires { at + 2 * length bytes.now ≤ length lent.old }
+    ensures { Put lent.old at (hex bytes.now) result lent.new }
 {
-    let mut i = from;
-    let mut p = at;
-    while i < bytes.len() {
-        let b = bytes[i];
-        lent[p] = high_of(t, b);
-        lent[p + 1] = low_of(t, b);
-        p += 2;
-        i += 1;
+    let t = digits();
+    for (i, &b) in bytes.iter().enumerate() {
+        lent[at + 2 * i] = high_of(&t, b);
+        lent[at + 2 * i + 1] = low_of(&t, b);
     }
-    p
+    at + 2 * bytes.len()
 }
 
 // Eight bytes at a time, and what is left of the list one by one.
@@ -97,8 +88,7 @@ fn put_all(bytes: &[u8], lent: &mut [u8], at: usize) -> usize
 {
     let n = bytes.len() / 8 * 8;
     let p = put_hex(&bytes[..n], lent, at);
-    let t = digits();
-    put_rest(bytes, n, &t, lent, p)
+    put_few(&bytes[n..], lent, p)
 }
 
 // The field of no bytes, and the byte that ends it.

@@ -7,7 +7,7 @@ ghost use Rattle.std.specs.Prelude.{◌+◌, ◌*◌, ◌≤◌, ◌≡◌, ◌|
 
 use crate::decimal::{places, put_number};
 use crate::hex::{put_field, put_none, put_one, put_two, width};
-use answers::{Refusal, Written};
+use answers::Refusal;
 
 mod decimal;
 mod hex;
@@ -27,14 +27,14 @@ pub const FIELD_MAX: usize = 255;
 const LINE_MAX: usize = 2054;
 
 // Writes the header.
-pub fn title(lent: &mut [u8]) -> Written
+pub fn title(lent: &mut [u8]) -> Result<usize, Refusal>
     ensures { IsTitle lent.old result lent.new }
 {
     if lent.len() < TITLE.len() {
-        return Written::Refused(Refusal::NoRoom);
+        return Err(Refusal::NoRoom);
     }
     lent[..TITLE.len()].copy_from_slice(&TITLE);
-    Written::Done(TITLE.len())
+    Ok(TITLE.len())
 }
 
 // Whether a line is refused whose first three fields take `three` bytes, and whose data have `n`. Where there is room for any
@@ -53,13 +53,13 @@ fn is_refused(port: u8, three: usize, n: usize, room: usize) -> bool
 }
 
 // What it is refused with.
-fn refusal(n: usize) -> Written
+fn refusal(n: usize) -> Result<usize, Refusal>
     ensures { result ≡ refused_for (ltb field_max n) }
 {
     if FIELD_MAX < n {
-        return Written::Refused(Refusal::TooLong);
+        return Err(Refusal::TooLong);
     }
-    Written::Refused(Refusal::NoRoom)
+    Err(Refusal::NoRoom)
 }
 
 // What stands before the four lists: the port, and 1, the answer that a message read is.
@@ -116,7 +116,7 @@ pub fn message_2_2_1(
     code: u8,
     payload: &[u8],
     lent: &mut [u8],
-) -> Written
+) -> Result<usize, Refusal>
     ensures { IsMessage port (shown (from1 ∷ from2 ∷ []) (to1 ∷ to2 ∷ []) (code ∷ []) payload.now) lent.old result lent.new }
 {
     if is_refused(port, 10, payload.len(), lent.len()) {
@@ -124,7 +124,7 @@ pub fn message_2_2_1(
     }
     let p = put_2_2(port, from1, from2, to1, to2, lent);
     let q = put_one(code, lent, p);
-    Written::Done(put_field(payload, b'\n', lent, q))
+    Ok(put_field(payload, b'\n', lent, q))
 }
 
 // The same where they have 2, 2 and 2.
@@ -138,7 +138,7 @@ pub fn message_2_2_2(
     code2: u8,
     payload: &[u8],
     lent: &mut [u8],
-) -> Written
+) -> Result<usize, Refusal>
     ensures { IsMessage port (shown (from1 ∷ from2 ∷ []) (to1 ∷ to2 ∷ []) (code1 ∷ code2 ∷ []) payload.now) lent.old result lent.new }
 {
     if is_refused(port, 12, payload.len(), lent.len()) {
@@ -146,7 +146,7 @@ pub fn message_2_2_2(
     }
     let p = put_2_2(port, from1, from2, to1, to2, lent);
     let q = put_two(code1, code2, lent, p);
-    Written::Done(put_field(payload, b'\n', lent, q))
+    Ok(put_field(payload, b'\n', lent, q))
 }
 
 // The same where they have none, 2 and 1.
@@ -157,7 +157,7 @@ pub fn message_0_2_1(
     code: u8,
     payload: &[u8],
     lent: &mut [u8],
-) -> Written
+) -> Result<usize, Refusal>
     ensures { IsMessage port (shown [] (to1 ∷ to2 ∷ []) (code ∷ []) payload.now) lent.old result lent.new }
 {
     if is_refused(port, 7, payload.len(), lent.len()) {
@@ -165,7 +165,7 @@ pub fn message_0_2_1(
     }
     let p = put_0_2(port, to1, to2, lent);
     let q = put_one(code, lent, p);
-    Written::Done(put_field(payload, b'\n', lent, q))
+    Ok(put_field(payload, b'\n', lent, q))
 }
 
 // The same where they have 1, 2 and 1.
@@ -177,7 +177,7 @@ pub fn message_1_2_1(
     code: u8,
     payload: &[u8],
     lent: &mut [u8],
-) -> Written
+) -> Result<usize, Refusal>
     ensures { IsMessage port (shown (from ∷ []) (to1 ∷ to2 ∷ []) (code ∷ []) payload.now) lent.old result lent.new }
 {
     if is_refused(port, 8, payload.len(), lent.len()) {
@@ -185,40 +185,40 @@ pub fn message_1_2_1(
     }
     let p = put_1_2(port, from, to1, to2, lent);
     let q = put_one(code, lent, p);
-    Written::Done(put_field(payload, b'\n', lent, q))
+    Ok(put_field(payload, b'\n', lent, q))
 }
 
 // Writes the line of a damage, by the port, the damage's number and how many bytes were lost.
-pub fn damage(port: u8, number: u8, lost: u16, lent: &mut [u8]) -> Written
+pub fn damage(port: u8, number: u8, lost: u16, lent: &mut [u8]) -> Result<usize, Refusal>
     ensures { IsDamage port number lost lent.old result lent.new }
 {
     if lent.len() < places(port as u64) + places(number as u64) + places(lost as u64) + 3 {
-        return Written::Refused(Refusal::NoRoom);
+        return Err(Refusal::NoRoom);
     }
     let p = put_number(port as u64, b' ', lent, 0);
     let q = put_number(number as u64, b' ', lent, p);
-    Written::Done(put_number(lost as u64, b'\n', lent, q))
+    Ok(put_number(lost as u64, b'\n', lent, q))
 }
 
 // Writes the line of a refusal that stops the listing, by its number.
-pub fn stop(number: u8, lent: &mut [u8]) -> Written
+pub fn stop(number: u8, lent: &mut [u8]) -> Result<usize, Refusal>
     ensures { IsStop number lent.old result lent.new }
 {
     if lent.len() < STOP.len() + places(number as u64) + 1 {
-        return Written::Refused(Refusal::NoRoom);
+        return Err(Refusal::NoRoom);
     }
     lent[..STOP.len()].copy_from_slice(&STOP);
-    Written::Done(put_number(number as u64, b'\n', lent, STOP.len()))
+    Ok(put_number(number as u64, b'\n', lent, STOP.len()))
 }
 
 // Writes the last line, with both counts.
-pub fn end(messages: u64, damages: u64, lent: &mut [u8]) -> Written
+pub fn end(messages: u64, damages: u64, lent: &mut [u8]) -> Result<usize, Refusal>
     ensures { IsEnd messages damages lent.old result lent.new }
 {
     if lent.len() < END.len() + places(messages) + places(damages) + 2 {
-        return Written::Refused(Refusal::NoRoom);
+        return Err(Refusal::NoRoom);
     }
     lent[..END.len()].copy_from_slice(&END);
     let p = put_number(messages, b' ', lent, END.len());
-    Written::Done(put_number(damages, b'\n', lent, p))
+    Ok(put_number(damages, b'\n', lent, p))
 }
