@@ -2,41 +2,48 @@
 -- Assumes nothing.
 use Prim.Native.Nat.{ℕ, ◌+◌, ◌-◌, ◌*◌, ◌≤◌, ◌<◌}
 use mathlib.Core.Path.{◌≡◌, refl, sym, ap, ◌∙◌, subst}
-use mathlib.Core.Bool.{Bool, true, false, not}
+use mathlib.Core.Bool.{Bool, true, false}
 use mathlib.Core.Option.{Option, none, some}
 use mathlib.Core.List.{List, [], ◌∷◌, ◌++◌, map, append-nil, append_assoc}
 use lib.ListN.{length, take, drop, length-append, length-drop, drop_of_length-le}
-use lib.Seq.{sets, sets-eq, length-sets, drop-drop, take_all}
+use lib.Seq.{sets, sets-eq, drop-drop, take_all}
 use native.Mathlib.Nat.{le_refl, zero-add}
 use native.Mathlib.Omega.{arith}
 use borrow.Rule.Slice.PartMut.{put_mid}
 use Rattle.numbers.proofs.Alike.{zero_is_one}
-use Rattle.answers.specs.Written.{length_in, Writes}
-use Rattle.answers.specs.declared.Written.{Written}
-use Rattle.stream.specs.Event.{Event, message, damage, Told, done, gives, refuses, outcome}
+use Rattle.std.specs.Prelude.{Result, Ok, Err}
+use Rattle.std.specs.Result.{result_unwrap_or}
+use Rattle.answers.specs.Written.{Writes}
+use Rattle.answers.specs.Written.{Written}
+use Rattle.answers.specs.declared.Refusal.{Refusal}
+use Rattle.answers.specs.declared.Refusal.TheVariants.{Spoilt}
+use Rattle.stream.specs.Event.{Event, message, damage, Told, done, gives, refuses, number, outcome}
 use Rattle.stream.specs.Pieces.{Moved, Called, Ran, before, scan, calls}
-use Rattle.stream.specs.Call.{Seen, lent_least, unmoved, called, retold, retells, Steps}
+use Rattle.stream.specs.Call.{Seen, lent_least, unmoved, answered, called, retold}
 use Rattle.stream.proofs.CallsComeTo.{after, events, scan_after, scan_events, calls_is}
 use Rattle.stream.proofs.LoopScans.{scan_used, scan_uses}
-use Rattle.stream.proofs.PromiseOfStep.{in_room, steps_seen}
+use Rattle.stream.proofs.PromiseOfStep.{in_room}
 use Rattle.stream.proofs.HostRelies.{Fine}
 use Rattle.uplink.specs.Packet.{piece_max}
+use Rattle.ports.specs.Ports.{Seat, row_of}
 use Rattle.listing_text.specs.Lines.{Shown}
 use Rattle.listing_text.proofs.PutsJoin.{sets_append, put_front}
 use Rattle.listing_text.proofs.LineLengths.{line_written}
-use Rattle.listing.specs.Entries.{show_event, Entry, entries_on, lines_of, is_message, is_damage, messages_in, damages_in}
+use Rattle.listing.specs.Entries.{show_event, Entry, entries_on, entry_line, lines_of, is_message, is_damage, messages_in, damages_in}
 use Rattle.listing.specs.Steps.{room_least}
-use Rattle.listing.specs.Inside.{Put, Drains}
+use Rattle.listing.specs.Inside.{Put, told_by, IsRead, drained, Drains}
+use Rattle.listing.specs.declared.family.Read.{Read}
+use Rattle.listing.specs.declared.drain.Drained.{Drained}
 use Rattle.listing.proofs.LinesInOrder.{lines_append, messages_append, damages_append}
-use Rattle.listing.proofs.LinesFit.{line_for, per_byte, held_most, Weighs, scan_weighs}
+use Rattle.listing.proofs.LinesFit.{line_for, per_byte, held_most, scan_weighs, weight_of, weighs_of, heavy_of}
 
 -- ---- a line at an index of the lent buffer
 
 -- a line for which there is room is put
-pub put_line : (long : Bool) (piece lent later : List ℕ) (w : Written) (n : ℕ) → Writes long piece lent w later → long ≡ false → length piece ≤ length lent → n ≡ length_in w → Put piece lent n later
+pub put_line : (long : Bool) (piece lent later : List ℕ) (w : Written) (n : ℕ) → Writes long piece lent w later → long ≡ false → length piece ≤ length lent → n ≡ result_unwrap_or w 0 → Put piece lent n later
 put_line long piece lent later w n x e room m =
     let p = line_written long piece lent later w x e room in
-    (m ∙ ap length_in p.0, p.1)
+    (m ∙ ap (λ (v : Written). result_unwrap_or v 0) p.0, p.1)
 
 -- the whole rest of a buffer, lent as a part
 pub rest : (l : List ℕ) (k : ℕ) → take (length l - k) (drop k l) ≡ drop k l
@@ -176,9 +183,51 @@ given done = none
 given (gives e) = some e
 given (refuses n) = none
 
-given_told : {M : Type 0} (o : Option (Event M)) → given (outcome o) ≡ o
-given_told none = refl
-given_told (some e) = refl
+-- messages shown: an event's line, and what it counts
+abbrev pub line_of : (port : ℕ) → Option (Event Shown) → List ℕ
+line_of port none = []
+line_of port (some e) = entry_line port e
+
+abbrev pub messages_of : Option (Event Shown) → ℕ
+messages_of none = 0
+messages_of (some e) = is_message e
+
+abbrev pub damages_of : Option (Event Shown) → ℕ
+damages_of none = 0
+damages_of (some e) = is_damage e
+
+module _ {M : Type 0} (show : M → Shown) where
+  abbrev pub shows : Option (Event M) → Option (Event Shown)
+  shows none = none
+  shows (some e) = some (show_event show e)
+
+  given_shows : (o : Option (Event M)) → given (retold show (outcome o)) ≡ shows o
+  given_shows none = refl
+  given_shows (some (message m)) = refl
+  given_shows (some (damage n lost)) = refl
+
+  fine_outcome : (o : Option (Event M)) → Fine (retold show (outcome o))
+  fine_outcome none = tt
+  fine_outcome (some (message m)) = tt
+  fine_outcome (some (damage n lost)) = tt
+
+  pub fine_retold : (t : Told M) → Fine t → Fine (retold show t)
+  fine_retold done f = tt
+  fine_retold (gives (message m)) f = tt
+  fine_retold (gives (damage n lost)) f = tt
+  fine_retold (refuses n) f = f
+
+  line_shown : (port : ℕ) (o : Option (Event M)) → line_of port (shows o) ≡ line_for show port o
+  line_shown port none = refl
+  line_shown port (some e) = refl
+
+  messages_shown : (port : ℕ) (o : Option (Event M)) → messages_of (shows o) ≡ message_for show port o
+  messages_shown port none = refl
+  messages_shown port (some e) = refl
+
+  damages_shown : (port : ℕ) (o : Option (Event M)) → damages_of (shows o) ≡ damage_for show port o
+  damages_shown port none = refl
+  damages_shown port (some e) = refl
 
 called_same : {S E : Type 0} {s t : S} {o p : Option E} {u v : ℕ} → s ≡ t → o ≡ p → u ≡ v
     → ◌≡◌ {A = Called S E} (record { state = s; event = o; used = u }) (record { state = t; event = p; used = v })
@@ -187,139 +236,172 @@ called_same {S} {E} {s} {t} {o} {p} {u} {v} a b c =
     ∙ ap {B = Called S E} (λ (x : Option E). record { state = t; event = x; used = u }) b
     ∙ ap {B = Called S E} (λ (x : ℕ). record { state = t; event = p; used = x }) c
 
-module _ {S M H R : Type 0} (next : S → ℕ → Moved S (Event M)) (in_range : S → Bool) (header : M → H) (payload : M → List ℕ) (shown : R → Seen S H)
-    (join : H → List ℕ → M) (joins : (m : M) (rest : List ℕ) → join (header m) (payload m ++ rest) ≡ m) where
+module _ (at : Seat) where
+  -- the family's machine
+  abbrev next : (row_of at).family.State → ℕ → Moved (row_of at).family.State (Event (row_of at).family.Message)
+  next = (row_of at).next
+
   -- a call that was not refused scanned its piece, from a state in range
-  pub record Went (s : S) (piece : List ℕ) (r : R) (o : Option (Event M)) : Type 0 where
-    pub ranged : in_range s ≡ true
-    pub scanned : scan next s piece ≡ record { state = (shown r).state; event = o; used = (shown r).used }
+  pub record Went (s : (row_of at).family.State) (piece : List ℕ) (later : (row_of at).family.State) (o : Option (Event Shown)) (used : ℕ) : Type 0 where
+    pub ranged : (row_of at).in_range s ≡ true
+    pub state : later ≡ (scan next s piece).state
+    pub event : o ≡ shows (row_of at).show (scan next s piece).event
+    pub uses : used ≡ (scan next s piece).used
 
-  module _ (s : S) (piece lent later : List ℕ) (r : R) (st : Steps next in_range header payload shown s piece lent r later) (room : lent_least ≤ length lent) where
-    pub went : (o : Option (Event M)) → Fine (shown r).told → given (retold (λ h. join h later) (shown r).told) ≡ o → Went s piece r o
-    went o fine e = go (in_range s) refl
+  module _ {H : Type 0} {payload_length : H → ℕ} {shown : H → List ℕ → Shown} {s : (row_of at).family.State} {piece lent : List ℕ} {r : Read H} {later : (row_of at).family.State} {lent_later : List ℕ}
+      (x : IsRead at payload_length shown s piece lent r later lent_later) (room : lent_least ≤ length lent) where
+    -- what is told, messages shown
+    abbrev pub tells : Told H → Told Shown
+    tells t = retold (λ h. shown h lent_later) t
+
+    abbrev seen : Seen (row_of at).family.State (row_of at).family.Message
+    seen = called next (row_of at).in_range s piece lent
+
+    scanned : (row_of at).in_range s ≡ true → seen ≡ answered (scan next s piece)
+    scanned i = in_room next (row_of at).in_range s piece lent i room
+
+    spoilt : (row_of at).in_range s ≡ false → seen ≡ unmoved 18 s
+    spoilt i = rw i
+
+    pub read_used : r.used ≤ length piece
+    read_used = go ((row_of at).in_range s) refl
       where
-        go : (t : Bool) → in_range s ≡ t → Went s piece r o
+        go : (t : Bool) → (row_of at).in_range s ≡ t → r.used ≤ length piece
         go true i =
-            let seen = steps_seen next in_range header payload shown join joins s piece lent later r st ∙ in_room next in_range s piece lent i room in
-            record {
-              ranged = i;
-              scanned = called_same
-                  (sym (ap (λ (v : Seen S M). v.state) seen))
-                  (sym (given_told (scan next s piece).event) ∙ sym (ap (λ (v : Seen S M). given v.told) seen) ∙ e)
-                  (sym (ap (λ (v : Seen S M). v.used) seen));
-            }
+            let u : r.used ≡ (scan next s piece).used = x.uses ∙ ap (λ (v : Seen (row_of at).family.State (row_of at).family.Message). v.used) (scanned i) in
+            omega (arith, scan_used next s piece)
         go false i =
-            let out : called next in_range s piece lent ≡ unmoved 18 s = rw i in
-            absurd (subst (λ (v : Seen S H). Fine v.told) (st.0 ∙ ap (retells header) out) fine)
+            let u : r.used ≡ 0 = x.uses ∙ ap (λ (v : Seen (row_of at).family.State (row_of at).family.Message). v.used) (spoilt i) in
+            omega arith
 
-    fine_told : (o : Option (Event M)) → Fine (retold header (outcome o))
-    fine_told none = tt
-    fine_told (some (message m)) = tt
-    fine_told (some (damage n lost)) = tt
+    pub went : (t : Told H) → told_by r.told ≡ t → Fine t → Went s piece later (given (tells t)) r.used
+    went t e fine = go ((row_of at).in_range s) refl
+      where
+        told_so : tells t ≡ retold (row_of at).show seen.told
+        told_so = ap tells (sym e) ∙ x.tells
+
+        go : (q : Bool) → (row_of at).in_range s ≡ q → Went s piece later (given (tells t)) r.used
+        go true i = record {
+          ranged = i;
+          state = x.state ∙ ap (λ (v : Seen (row_of at).family.State (row_of at).family.Message). v.state) (scanned i);
+          event = ap given (told_so ∙ ap (λ (v : Seen (row_of at).family.State (row_of at).family.Message). retold (row_of at).show v.told) (scanned i))
+              ∙ given_shows (row_of at).show (scan next s piece).event;
+          uses = x.uses ∙ ap (λ (v : Seen (row_of at).family.State (row_of at).family.Message). v.used) (scanned i);
+        }
+        go false i =
+            let bad : tells t ≡ refuses 18 = told_so ∙ ap (λ (v : Seen (row_of at).family.State (row_of at).family.Message). retold (row_of at).show v.told) (spoilt i) in
+            absurd (subst Fine bad (fine_retold (λ h. shown h lent_later) t fine))
 
     -- and one that was refused was made in a state out of range, and left it
-    pub spoils : (n : ℕ) → (shown r).told ≡ refuses n → (in_range s ≡ false) × ((shown r).state ≡ s)
-    spoils n e = go (in_range s) refl
+    pub spoils : (n : ℕ) → told_by r.told ≡ refuses n → ((row_of at).in_range s ≡ false) × (later ≡ s) × (n ≡ 18)
+    spoils n e = go ((row_of at).in_range s) refl
       where
-        go : (t : Bool) → in_range s ≡ t → (in_range s ≡ false) × ((shown r).state ≡ s)
+        told_so : refuses n ≡ retold (row_of at).show seen.told
+        told_so = ap tells (sym e) ∙ x.tells
+
+        go : (q : Bool) → (row_of at).in_range s ≡ q → ((row_of at).in_range s ≡ false) × (later ≡ s) × (n ≡ 18)
         go true i =
-            let is = st.0 ∙ ap (retells header) (in_room next in_range s piece lent i room) in
-            absurd (subst Fine (sym (ap (λ (v : Seen S H). v.told) is) ∙ e) (fine_told (scan next s piece).event))
+            let bad = told_so ∙ ap (λ (v : Seen (row_of at).family.State (row_of at).family.Message). retold (row_of at).show v.told) (scanned i) in
+            absurd (subst Fine (sym bad) (fine_outcome (row_of at).show (scan next s piece).event))
         go false i =
-            let out : called next in_range s piece lent ≡ unmoved 18 s = rw i in
-            (i, ap (λ (v : Seen S H). v.state) (st.0 ∙ ap (retells header) out))
+            let is : refuses n ≡ refuses 18 = told_so ∙ ap (λ (v : Seen (row_of at).family.State (row_of at).family.Message). retold (row_of at).show v.told) (spoilt i) in
+            (i, x.state ∙ ap (λ (v : Seen (row_of at).family.State (row_of at).family.Message). v.state) (spoilt i), ap (number {M = Shown}) is)
 
   -- ---- what a loop of calls keeps
 
-  module _ (show : M → Shown) (port : ℕ) (weight : S → ℕ) where
-    pub record Kept (s₀ : S) (piece out₀ : List ℕ) (s : S) (at wrote messages damages : ℕ) (out : List ℕ) : Type 0 where
-      pub mid : Mid next show port s₀ piece out₀ s at wrote messages damages out
-      pub within : at ≤ length piece
-      pub few_messages : messages ≤ at
-      pub few_damages : damages ≤ at
-      pub same : in_range s ≡ in_range s₀
-      pub room : in_range s ≡ true → wrote + weight s ≤ held_most + per_byte * at
+  module _ (port : ℕ) where
+    pub record Kept (s₀ : (row_of at).family.State) (piece out₀ : List ℕ) (s : (row_of at).family.State) (k wrote messages damages : ℕ) (out : List ℕ) : Type 0 where
+      pub mid : Mid next (row_of at).show port s₀ piece out₀ s k wrote messages damages out
+      pub within : k ≤ length piece
+      pub few_messages : messages ≤ k
+      pub few_damages : damages ≤ k
+      pub same : (row_of at).in_range s ≡ (row_of at).in_range s₀
+      pub room : (row_of at).in_range s ≡ true → wrote + weight_of at s ≤ held_most + per_byte * k
       -- out of range nothing is done
-      pub still : in_range s₀ ≡ false → (at ≡ 0) × (s ≡ s₀) × (out ≡ out₀)
+      pub still : (row_of at).in_range s₀ ≡ false → (k ≡ 0) × (s ≡ s₀) × (out ≡ out₀)
 
-    pub begins : ((s : S) → in_range s ≡ true → weight s ≤ held_most) → (s : S) (piece out : List ℕ) → Kept s piece out s 0 0 0 0 out
-    begins heavy s piece out = record {
-      mid = mid_begins next show port s piece out;
+    pub begins : (s : (row_of at).family.State) (piece out : List ℕ) → Kept s piece out s 0 0 0 0 out
+    begins s piece out = record {
+      mid = mid_begins next (row_of at).show port s piece out;
       within = omega arith;
       few_messages = omega arith;
       few_damages = omega arith;
       same = refl;
-      room = λ i. omega (arith, heavy s i);
+      room = λ i. omega (arith, heavy_of at s i);
       still = λ i. (refl, refl, refl);
     }
 
-    module _ (weighs : Weighs next show port weight) {s₀ : S} {piece out₀ : List ℕ} {s : S} {at wrote messages damages : ℕ} {out : List ℕ}
-        (k : Kept s₀ piece out₀ s at wrote messages damages out) where
-      pub kept_length : length out ≡ length out₀
-      kept_length = ap length k.mid.laid ∙ length-sets out₀ 0 (lines_of (entries_in show port k.mid.told))
+    module _ (small : port < 10) {s₀ : (row_of at).family.State} {piece out₀ : List ℕ} {s : (row_of at).family.State} {k wrote messages damages : ℕ} {out : List ℕ}
+        (kept : Kept s₀ piece out₀ s k wrote messages damages out) where
+      module _ {later : (row_of at).family.State} {o : Option (Event Shown)} {used : ℕ} (w : Went s (drop k piece) later o used) where
+        abbrev event : Option (Event (row_of at).family.Message)
+        event = (scan next s (drop k piece)).event
 
-      module _ {r : R} {o : Option (Event M)} (w : Went s (drop at piece) r o) where
-        pub line_used : at + (shown r).used ≤ length piece
-        line_used =
-            let u : (scan next s (drop at piece)).used ≡ (shown r).used = ap (λ (c : Called S (Event M)). c.used) w.scanned in
-            omega (arith, scan_used next s (drop at piece), length-drop at piece, k.within)
+        pub line_used : k + used ≤ length piece
+        line_used = omega (arith, w.uses, scan_used next s (drop k piece), length-drop k piece, kept.within)
 
-        pub line_uses : at < length piece → 0 < (shown r).used
-        line_uses h =
-            let u : (scan next s (drop at piece)).used ≡ (shown r).used = ap (λ (c : Called S (Event M)). c.used) w.scanned in
-            omega (arith, scan_uses next s (drop at piece) (simp length-drop (omega arith)))
+        pub line_uses : k < length piece → 0 < used
+        line_uses h = omega (arith, w.uses, scan_uses next s (drop k piece) (simp length-drop (omega arith)))
+
+        line_same : line_of port o ≡ line_for (row_of at).show port event
+        line_same = ap (line_of port) w.event ∙ line_shown (row_of at).show port event
 
         -- there is room for its line
-        pub line_room : wrote + length (line_for show port o) + weight (shown r).state ≤ held_most + per_byte * (at + (shown r).used)
+        pub line_room : wrote + length (line_of port o) + weight_of at later ≤ held_most + per_byte * (k + used)
         line_room =
-            let one : length (line_for show port o) + weight (shown r).state ≤ weight s + per_byte * (shown r).used =
-            subst (λ (c : Called S (Event M)). length (line_for show port c.event) + weight c.state ≤ weight s + per_byte * c.used) w.scanned
-            (scan_weighs next show port weight weighs s (drop at piece)) in
-            omega (arith, k.room w.ranged)
+            let one = scan_weighs next (row_of at).show port (weight_of at) (weighs_of at port small) s (drop k piece) in
+            let long : length (line_of port o) ≡ length (line_for (row_of at).show port event) = ap length line_same in
+            let heavy : weight_of at later ≡ weight_of at (scan next s (drop k piece)).state = ap (weight_of at) w.state in
+            omega (arith, w.uses, kept.room w.ranged)
 
-        pub turns : (in_range s ≡ true → in_range (shown r).state ≡ true) → at < length piece → (wrote' messages' damages' : ℕ) (out' : List ℕ) → wrote' ≡ wrote + length (line_for show port o)
-            → messages' ≡ messages + message_for show port o → damages' ≡ damages + damage_for show port o → out' ≡ sets out wrote (line_for show port o)
-            → Kept s₀ piece out₀ (shown r).state (at + (shown r).used) wrote' messages' damages' out'
+        pub turns : ((row_of at).in_range s ≡ true → (row_of at).in_range later ≡ true) → k < length piece → (wrote' messages' damages' : ℕ) (out' : List ℕ) → wrote' ≡ wrote + length (line_of port o)
+            → messages' ≡ messages + messages_of o → damages' ≡ damages + damages_of o → out' ≡ sets out wrote (line_of port o)
+            → Kept s₀ piece out₀ later (k + used) wrote' messages' damages' out'
         turns stays h wrote' messages' damages' out' ew em ed eo =
-            let ranged : in_range s ≡ true = w.ranged in
-            let now-ranged : in_range (shown r).state ≡ true = stays ranged in
+            let now-ranged : (row_of at).in_range later ≡ true = stays w.ranged in
+            let a-message : messages_of o ≡ message_for (row_of at).show port event = ap messages_of w.event ∙ messages_shown (row_of at).show port event in
+            let a-damage : damages_of o ≡ damage_for (row_of at).show port event = ap damages_of w.event ∙ damages_shown (row_of at).show port event in
+            let is : scan next s (drop k piece) ≡ record { state = later; event = event; used = used } = called_same (sym w.state) refl (sym w.uses) in
             record {
-              mid = mid_turns next show port s₀ piece out₀ s at wrote messages damages out k.mid (shown r).state o (shown r).used w.scanned wrote' messages' damages' out' ew em ed eo;
+              mid = mid_turns next (row_of at).show port s₀ piece out₀ s k wrote messages damages out kept.mid later event used is wrote' messages' damages' out'
+                  (ew ∙ ap (λ (l : List ℕ). wrote + length l) line_same) (em ∙ ap (λ (n : ℕ). messages + n) a-message)
+                  (ed ∙ ap (λ (n : ℕ). damages + n) a-damage) (eo ∙ ap (sets out wrote) line_same);
               within = line_used;
-              few_messages = omega (arith, k.few_messages, line_uses h, message_most_one show port o);
-              few_damages = omega (arith, k.few_damages, line_uses h, damage_most_one show port o);
-              same = now-ranged ∙ sym ranged ∙ k.same;
-              room = λ i. omega (arith, line_room);
-              still = λ i. false_true (sym i ∙ sym k.same ∙ ranged);
+              few_messages = omega (arith, em, a-message, kept.few_messages, line_uses h, message_most_one (row_of at).show port event);
+              few_damages = omega (arith, ed, a-damage, kept.few_damages, line_uses h, damage_most_one (row_of at).show port event);
+              same = now-ranged ∙ sym w.ranged ∙ kept.same;
+              room = λ i. omega (arith, ew, line_room);
+              still = λ i. false_true (sym i ∙ sym kept.same ∙ w.ranged);
             }
 
       -- ---- the two ends
 
-      pub ends : (t : S) (spoilt : Bool) → t ≡ s → spoilt ≡ false → length piece ≤ at → 0 < length piece → length piece ≤ piece_max → room_least ≤ length out₀
-          → Drains next in_range show s₀ port piece out₀ t spoilt wrote messages damages out
-      ends t spoilt et es h any short room = record {
-        range = es ∙ range (in_range s₀) refl;
-        refuses = λ i. absurd (omega (arith, (k.still i).0));
+      pub ends : length piece ≤ k → 0 < length piece → length piece ≤ piece_max → room_least ≤ length out₀
+          → Drains at s₀ port piece out₀ (Ok (record { wrote = wrote; messages = messages; damages = damages })) s out
+      ends h any short room = record {
+        refuses = λ i. absurd (omega (arith, (kept.still i).0));
         reads = λ i.
-            subst (λ (ran : Ran S (Event M)).
-            (t ≡ ran.state) × Put (lines_of (entries_in show port ran.events)) out₀ wrote out
-            × (messages ≡ messages_in (entries_in show port ran.events)) × (damages ≡ damages_in (entries_in show port ran.events)) × (in_range t ≡ true))
-            (sym (mid_ends next show port s₀ piece out₀ s at wrote messages damages out k.mid h))
-            (et, (k.mid.count, k.mid.laid ∙ put_front out₀ (lines_of (entries_in show port k.mid.told)) (omega (arith, k.mid.count, k.within, k.room (k.same ∙ i)))), k.mid.messages_told, k.mid.damages_told, ap in_range et ∙ k.same ∙ i);
-        few = (omega (arith, k.within, k.few_messages), omega (arith, k.within, k.few_damages));
+            subst (λ (ran : Ran (row_of at).family.State (Event (row_of at).family.Message)).
+            (◌≡◌ {A = Result Drained Refusal} (Ok (record { wrote = wrote; messages = messages; damages = damages })) (Ok (drained (entries_in (row_of at).show port ran.events))))
+            × (s ≡ ran.state) × (out ≡ lines_of (entries_in (row_of at).show port ran.events) ++ drop (length (lines_of (entries_in (row_of at).show port ran.events))) out₀)
+            × ((row_of at).in_range s ≡ true))
+            (sym (mid_ends next (row_of at).show port s₀ piece out₀ s k wrote messages damages out kept.mid h))
+            (counted, refl, kept.mid.laid ∙ put_front out₀ (lines_of (entries_in (row_of at).show port kept.mid.told)) (omega (arith, kept.mid.count, kept.within, kept.room (kept.same ∙ i))), kept.same ∙ i);
+        few = λ d e. let is : d ≡ record { wrote = wrote; messages = messages; damages = damages } = cc in rw is (omega (arith, kept.within, kept.few_messages), omega (arith, kept.within, kept.few_damages));
       }
         where
-          range : (t : Bool) → in_range s₀ ≡ t → false ≡ not (in_range s₀)
-          range true i = rw i
-          range false i = absurd (omega (arith, (k.still i).0))
+          counted : ◌≡◌ {A = Result Drained Refusal} (Ok (record { wrote = wrote; messages = messages; damages = damages })) (Ok (drained (entries_in (row_of at).show port kept.mid.told)))
+          counted = rw (kept.mid.count, kept.mid.messages_told, kept.mid.damages_told)
 
-      pub ends_spoilt : (t : S) (spoilt : Bool) → t ≡ s → spoilt ≡ true → in_range s ≡ false → length piece ≤ piece_max
-          → Drains next in_range show s₀ port piece out₀ t spoilt wrote messages damages out
-      ends_spoilt t spoilt et es o short =
-          let out_of : in_range s₀ ≡ false = sym k.same ∙ o in
+      pub ends_spoilt : (r : Result Drained Refusal) (later : (row_of at).family.State) → r ≡ Err Spoilt → later ≡ s → (row_of at).in_range s ≡ false
+          → Drains at s₀ port piece out₀ r later out
+      ends_spoilt r later er el o =
+          let out_of : (row_of at).in_range s₀ ≡ false = sym kept.same ∙ o in
           record {
-            range = es ∙ rw out_of;
-            refuses = λ i. (et ∙ (k.still i).1, (k.still i).2);
+            refuses = λ i. (er, el ∙ (kept.still i).1, (kept.still i).2);
             reads = λ i. false_true (sym out_of ∙ i);
-            few = (omega (arith, k.within, k.few_messages), omega (arith, k.within, k.few_damages));
+            few = λ d e. absurd (bad d (sym e ∙ er));
           }
+        where
+          bad : (d : Drained) → ◌≡◌ {A = Result Drained Refusal} (Ok d) (Err Spoilt) → ⊥
+          bad d e = zero_is_one cc

@@ -39,6 +39,7 @@ use Rattle.drives.specs.Reader as DrivesReader
 use Rattle.drives.specs.declared.reader.Reader as DrivesState
 use Rattle.drives.proofs.StageRanges as DrivesRange
 use Rattle.drives.proofs.FrameLimits.{sized_bounds}
+use Rattle.ports.specs.Ports.{Seat, comlynx_seat, eversolar_seat, fronius_seat, drives_seat, row_of}
 use Rattle.listing_text.specs.Lines.{Shown, decimal, damage_line}
 use Rattle.listing_text.proofs.FieldLengths.{decimal_8, decimal_10, decimal_16, decimal_most}
 use Rattle.listing_text.proofs.LineLengths.{message_most, damage_most}
@@ -231,10 +232,14 @@ module _ (port : ℕ) (small : port < 10) where
       go false false false true x z m n a c d e g h i j = rw (a, c, d, e) (omega (arith, none_came, lost 2 s.came (omega arith)))
       go false false false false x z m n a c d e g h i j = rw (a, c, d, e) (omega (arith, more_came s.came))
 
+comlynx_came : (stage came count : ℕ) → ComlynxRange.Range stage came count → came ≤ ComlynxRules.lost_max
+comlynx_came stage came count (ComlynxRange.outside p q r) = omega arith
+comlynx_came stage came count (ComlynxRange.within p q r s) = r
+
 pub comlynx_heavy : (s : ComlynxState.Reader) → ComlynxReader.in_range s ≡ true → comlynx_weight s ≤ held_most
 comlynx_heavy s e =
     let range = ComlynxRange.range_of s.stage s.came s.count e in
-    let few = ComlynxRange.range_came s.stage s.came s.count range in
+    let few = comlynx_came s.stage s.came s.count range in
     omega (arith, ComlynxRange.range_count s.stage s.came s.count range, decimal_16 s.came (omega (arith, few)))
 
 -- ---- drives
@@ -294,3 +299,23 @@ drives_heavy s e = go (DrivesRange.range_of s.stage s.count e)
     go : DrivesRange.Range s.stage s.count → drives_weight s ≤ held_most
     go (DrivesRange.looks p q) = omega (arith, decimal_16 (s.count + 2) (omega arith))
     go (DrivesRange.reads p q) = omega (arith, decimal_16 (s.count + 2) (omega arith))
+
+-- ---- each row of the table of ports
+
+abbrev pub weight_of : (at : Seat) → (row_of at).family.State → ℕ
+weight_of comlynx_seat = comlynx_weight
+weight_of eversolar_seat = eversolar_weight
+weight_of fronius_seat = fronius_weight
+weight_of drives_seat = drives_weight
+
+pub weighs_of : (at : Seat) (port : ℕ) → port < 10 → Weighs (row_of at).next (row_of at).show port (weight_of at)
+weighs_of comlynx_seat = comlynx_weighs
+weighs_of eversolar_seat = eversolar_weighs
+weighs_of fronius_seat = fronius_weighs
+weighs_of drives_seat = drives_weighs
+
+pub heavy_of : (at : Seat) (s : (row_of at).family.State) → (row_of at).in_range s ≡ true → weight_of at s ≤ held_most
+heavy_of comlynx_seat = comlynx_heavy
+heavy_of eversolar_seat = eversolar_heavy
+heavy_of fronius_seat = fronius_heavy
+heavy_of drives_seat = drives_heavy

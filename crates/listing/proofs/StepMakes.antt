@@ -2,39 +2,43 @@
 -- Assumes nothing.
 use Prim.Native.Nat.{ℕ, ◌+◌, ◌*◌, ◌-◌, ◌≤◌, ◌<◌}
 use mathlib.Core.Path.{◌≡◌, refl, sym, ap, ◌∙◌, subst}
-use mathlib.Core.Bool.{Bool, true, false, cond, ◌&&◌, not}
+use mathlib.Core.Bool.{Bool, true, false, ◌&&◌}
 use mathlib.Core.Logic.{◌⊎◌, inl, inr}
-use mathlib.Core.Option.{none, some}
+use mathlib.Core.Option.{some}
 use mathlib.Core.List.{List, [], ◌∷◌, ◌++◌, map, append-nil, append_assoc}
 use lib.ListN.{length, take, drop, length-append, length-drop, drop_of_length-le}
 use lib.Seq.{length-take-le, take_all, take_at, drop_at, drop-drop}
 use lib.Dec.{eqb, leb}
-use borrow.Author.Tests.{leb-true, le-leb, lt-leb, eq-eqb, ne_eqb, not-true, not-false}
+use borrow.Author.Tests.{leb-true, le-leb, lt-leb, eq-eqb, ne_eqb, eqb-true}
 use borrow.Rule.Slice.PartMut.{put_mid}
 use mir.Val.{Fits}
 use mir.Syntax.{w64}
 use native.Mathlib.Nat.{le_refl}
 use native.Mathlib.Omega.{arith}
+use Rattle.std.specs.Prelude.{Result, Ok, Err}
+use Rattle.std.specs.declared.option.Option.{Option}
+use Rattle.std.specs.declared.option.Option.TheVariants.{None, Some}
+use Rattle.numbers.proofs.Alike.{zero_is_one}
 use Rattle.numbers.proofs.TestLaws.{both}
 use Rattle.answers.specs.Answer.{number}
 use Rattle.answers.specs.Refusal.{number as refusalNumber}
 use Rattle.answers.specs.declared.Refusal.{Refusal}
 use Rattle.answers.specs.declared.Refusal.TheVariants.{NoRoom, BytesMissing, Spoilt, TooManyPackets}
-use Rattle.answers.proofs.NumbersHaveCases.{refusal_above}
+use Rattle.answers.proofs.NumbersHaveCases.{refusal_above, refusal_alike}
 use Rattle.stream.specs.Pieces.{calls}
 use Rattle.uplink.specs.Packet.{lead_length, piece_max, count_in, packet_at, IsRead}
 use Rattle.uplink.specs.Demands.{Within}
-use Rattle.uplink.specs.declared.Received.TheVariants as Received
 use Rattle.uplink.proofs.AcceptedIsWritten.{tested}
 use Rattle.ports.specs.Ports.{Seat, row_of}
 use Rattle.ports.specs.declared.Ports.{Ports}
 use Rattle.ports.proofs.EveryRow.{facts_of}
 use Rattle.ports.proofs.TableLaws.{same_seat}
-use Rattle.listing_text.specs.Lines.{stop_line, end_line}
-use Rattle.listing.specs.Entries.{show_event, last_lines}
+use Rattle.listing_text.specs.Lines.{end_line}
+use Rattle.listing.specs.Entries.{show_event, entries_on, last_lines}
 use Rattle.listing.specs.Steps.{Packet, packet_in, packets_max}
 use Rattle.listing.specs.Steps.{Fed, readable_on, Made, unmoved, wants_more, ends, takes, taking, no_packet, at_end, by_packet, going, in_range, room_least, made, Sound, listed, HandsBack}
-use Rattle.listing.specs.Inside.{Put, Drains, stop_text, stop_of, took}
+use Rattle.listing.specs.Inside.{Put, drained as drained_of, Drains, DrainsOn, stop_text, stop_of, took}
+use Rattle.listing.specs.declared.drain.Drained.{Drained}
 use Rattle.listing.specs.declared.Listing.{Listing}
 use Rattle.listing.specs.declared.Listed.{Listed}
 
@@ -82,13 +86,9 @@ put_after a b lent mid m p q x y =
     let rest : drop p mid ≡ drop (length a) lent = ap (drop p) x.1 ∙ drop_at a (drop (length a) lent) p (sym x.0) in
     (rw (x.0, y.0) (sym (length-append a b)), put ∙ simp (first, rest, append_assoc, drop-drop, length-append))
 
-by_stop : (t : Bool) (stop messages damages : ℕ) → last_lines (cond t none (some stop)) messages damages ≡ cond t [] (stop_line stop) ++ end_line messages damages
-by_stop true stop messages damages = refl
-by_stop false stop messages damages = refl
-
-pub last_lines_lem : (stop messages damages : ℕ) → last_lines (stop_of stop) messages damages ≡ stop_text stop ++ end_line messages damages
-unfolding stop_of stop_text
-last_lines_lem stop messages damages = by_stop (eqb stop 0) stop messages damages
+pub last_lines_lem : (stop : Option Refusal) (messages damages : ℕ) → last_lines (stop_of stop) messages damages ≡ stop_text stop ++ end_line messages damages
+last_lines_lem None messages damages = refl
+last_lines_lem (Some why) messages damages = refl
 
 -- ---- ends of a call
 
@@ -110,60 +110,115 @@ still_readable at other ps s h x = go (same_seat at other)
     go (inl e) = subst (λ (l : Seat). readable_on (some l) ((row_of at).put ps s) ≡ true) e (ap (row_of at).in_range ((facts_of at).got ps s) ∙ h)
     go (inr n) = ap (row_of other).in_range ((facts_of at).others other ps s n) ∙ x
 
-module _ (at : Seat) (l : Listing) (piece lent later : List ℕ) (reader : (row_of at).family.State) (spoilt : Bool) (wrote messages damages : ℕ) (r : Listed)
-    (d : Drains (row_of at).next (row_of at).in_range (row_of at).show ((row_of at).get l.ports) (row_of at).port piece lent reader spoilt wrote messages damages later) where
+pub drained_few : {ps later : Ports} {port : ℕ} {piece lent text : List ℕ} {r : Result Drained Refusal} {d : Drained} → DrainsOn ps port piece lent r later text → r ≡ Ok d
+    → (d.messages ≤ piece_max) × (d.damages ≤ piece_max)
+drained_few on e = on.4.few _ e
+
+-- a reader out of its range is refused with 18; one in its range is not
+err_not_ok : {A : Type 0} {d : Drained} {why : Refusal} → ◌≡◌ {A = Result Drained Refusal} (Ok d) (Err why) → A
+err_not_ok e = zero_is_one cc
+
+module _ (l : Listing) (port : ℕ) (piece lent later : List ℕ) (ps : Ports) (drained : Result Drained Refusal) (r : Listed) (on : DrainsOn l.ports port piece lent drained ps later) where
+  abbrev at : Seat
+  at = on.0
+
+  abbrev reader : (row_of at).family.State
+  reader = on.1
+
+  abbrev d : Drains at ((row_of at).get l.ports) (row_of at).port piece lent drained reader later
+  d = on.4
+
   abbrev p : Packet
-  p = packet (row_of at).port piece
+  p = packet port piece
 
-  -- the reader put back, and nothing counted
+  abbrev own : Packet
+  own = packet (row_of at).port piece
+
+  same_taking : taking l own ≡ taking l p
+  same_taking = ap (λ (n : ℕ). taking l (packet n piece)) (sym on.2)
+
+  -- the readers afterwards, and nothing counted
   abbrev put_back : Listing
-  put_back = record { ports = (row_of at).put l.ports reader; packets = l.packets; messages = l.messages; damages = l.damages }
+  put_back = record { ports = ps; packets = l.packets; messages = l.messages; damages = l.damages }
 
-  -- out of its range: it comes back as it was
-  pub drain_refused : spoilt ≡ true → r ≡ listed (unmoved Spoilt put_back) → HandsBack l (taking l p) lent r later
+  out_of_range_or_in : (row_of at).in_range ((row_of at).get l.ports) ≡ true ⊎ (row_of at).in_range ((row_of at).get l.ports) ≡ false
+  out_of_range_or_in = decided ((row_of at).in_range ((row_of at).get l.ports)) refl
+    where
+      decided : (t : Bool) → (row_of at).in_range ((row_of at).get l.ports) ≡ t → (row_of at).in_range ((row_of at).get l.ports) ≡ true ⊎ (row_of at).in_range ((row_of at).get l.ports) ≡ false
+      decided true e = inl e
+      decided false e = inr e
+
+  -- out of its range: it is as it was
+  pub drain_refused : (why : Refusal) → drained ≡ Err why → r ≡ listed (unmoved why put_back) → HandsBack l (taking l p) lent r later
   unfolding taking
-  drain_refused t e =
-      let out : (row_of at).in_range ((row_of at).get l.ports) ≡ false = not-true _ (sym d.range ∙ t) in
-      let is : unmoved Spoilt l ≡ taking l p = rw ((facts_of at).own_seat, out) in
-      let kept : later ≡ lent = (d.refuses out).1 in
-      let same : (row_of at).put l.ports reader ≡ l.ports = ap ((row_of at).put l.ports) (d.refuses out).0 ∙ (facts_of at).puts_own l.ports in
-      let told-so : r ≡ listed (unmoved Spoilt l) =
-      e ∙ ap (λ (ps : Ports). listed (unmoved Spoilt (record { ports = ps; packets = l.packets; messages = l.messages; damages = l.damages }))) same in
-      rw kept (same_made l lent lent r is (nothing l (unmoved Spoilt l) lent r refl refl told-so))
+  drain_refused why q e = go out_of_range_or_in
+    where
+      go : (row_of at).in_range ((row_of at).get l.ports) ≡ true ⊎ (row_of at).in_range ((row_of at).get l.ports) ≡ false → HandsBack l (taking l p) lent r later
+      go (inl inside) = err_not_ok (sym (d.reads inside).0 ∙ q)
+      go (inr out) =
+          let left = d.refuses out in
+          let spoilt : why ≡ Spoilt = wrong (sym q ∙ left.0) in
+          let is : unmoved Spoilt l ≡ taking l own = rw ((facts_of at).own_seat, out) in
+          let same : ps ≡ l.ports = on.3 ∙ ap ((row_of at).put l.ports) left.1 ∙ (facts_of at).puts_own l.ports in
+          let told-so : r ≡ listed (unmoved Spoilt l) =
+          e ∙ ap (λ (w : Refusal). listed (unmoved w put_back)) spoilt
+          ∙ ap (λ (x : Ports). listed (unmoved Spoilt (record { ports = x; packets = l.packets; messages = l.messages; damages = l.damages }))) same in
+          rw left.2 (same_made l lent lent r (is ∙ same_taking) (nothing l (unmoved Spoilt l) lent r refl refl told-so))
+        where
+          wrong : ◌≡◌ {A = Result Drained Refusal} (Err why) (Err Spoilt) → why ≡ Spoilt
+          wrong x = cc
 
   -- in its range
-  pub drain_taken : spoilt ≡ false → CanTake l (length piece) (length lent)
-      → r ≡ took ((row_of at).put l.ports reader) (l.packets + 1) (l.messages + messages) (l.damages + damages) (lead_length + length piece) wrote
+  pub drain_taken : (n : Drained) → drained ≡ Ok n → CanTake l (length piece) (length lent)
+      → r ≡ took ps (l.packets + 1) (l.messages + n.messages) (l.damages + n.damages) (lead_length + length piece) n.wrote
       → HandsBack l (taking l p) lent r later
   unfolding taking
-  drain_taken t can e =
-      let inside : (row_of at).in_range ((row_of at).get l.ports) ≡ true = not-false _ (sym d.range ∙ t) in
-      let ran = calls (row_of at).next (length piece) ((row_of at).get l.ports) piece in
-      let fed-on : Fed = record { ports = (row_of at).put l.ports ran.state; events = map (show_event (row_of at).show) ran.events } in
-      let is : takes l p fed-on ≡ taking l p = rw ((facts_of at).own_seat, inside) in
-      let x = d.reads inside in
-      let told-so : r ≡ listed (takes l p fed-on) = e ∙ rw (x.0, x.1.0, x.2, x.3) in
-      let before = in_counts l can.counts in
-      let after : Listing = record { ports = (row_of at).put l.ports reader; packets = l.packets + 1; messages = l.messages + messages; damages = l.damages + damages } in
-      let counts : in_range after ≡ true =
-      counts_in after (omega (arith, can.packets))
-      (omega (arith, before.1, d.few.0)) (omega (arith, before.2, d.few.1)) in
-      let sound : Sound l → Sound after = λ s. record {
-        counts = counts;
-        readers = λ other. still_readable at other l.ports reader x.4 (s.readers other);
-      } in
-      same_made l lent later r is (told-so, x.1.1, λ s. subst Sound (sym (ap (λ (y : Listed). y.listing) e)) (sound s))
+  drain_taken n q can e = go out_of_range_or_in
+    where
+      few : (n.messages ≤ piece_max) × (n.damages ≤ piece_max)
+      few = d.few n q
+
+      go : (row_of at).in_range ((row_of at).get l.ports) ≡ true ⊎ (row_of at).in_range ((row_of at).get l.ports) ≡ false → HandsBack l (taking l p) lent r later
+      go (inr out) = err_not_ok (sym q ∙ (d.refuses out).0)
+      go (inl inside) =
+          let ran = calls (row_of at).next (length piece) ((row_of at).get l.ports) piece in
+          let es = entries_on (row_of at).port (map (show_event (row_of at).show) ran.events) in
+          let fed-on : Fed = record { ports = (row_of at).put l.ports ran.state; events = map (show_event (row_of at).show) ran.events } in
+          let is : takes l own fed-on ≡ taking l own = rw ((facts_of at).own_seat, inside) in
+          let x = d.reads inside in
+          let counts : n ≡ drained_of es = same_count (sym q ∙ x.0) in
+          let moved : ps ≡ (row_of at).put l.ports ran.state = on.3 ∙ ap ((row_of at).put l.ports) x.1 in
+          let told-so : r ≡ listed (takes l own fed-on) =
+          e ∙ ap (λ (q : Ports). took q (l.packets + 1) (l.messages + n.messages) (l.damages + n.damages) (lead_length + length piece) n.wrote) moved
+          ∙ ap (λ (m : Drained). took ((row_of at).put l.ports ran.state) (l.packets + 1) (l.messages + m.messages) (l.damages + m.damages) (lead_length + length piece) m.wrote) counts in
+          let before = in_counts l can.counts in
+          let after : Listing = record { ports = ps; packets = l.packets + 1; messages = l.messages + n.messages; damages = l.damages + n.damages } in
+          let in-range : in_range after ≡ true =
+          counts_in after (omega (arith, can.packets))
+          (omega (arith, before.1, few.0)) (omega (arith, before.2, few.1)) in
+          let sound : Sound l → Sound after = λ s. record {
+            counts = in-range;
+            readers = λ other. subst (λ (q : Ports). readable_on (some other) q ≡ true) (sym on.3) (still_readable at other l.ports reader x.3 (s.readers other));
+          } in
+          same_made l lent later r (is ∙ same_taking) (told-so, x.2, λ s. subst Sound (sym (ap (λ (y : Listed). y.listing) e)) (sound s))
+        where
+          same_count : {a b : Drained} → ◌≡◌ {A = Result Drained Refusal} (Ok a) (Ok b) → a ≡ b
+          same_count x = cc
 
 -- ---- a packet that is refused
 
-module _ (l : Listing) (why : Refusal) (ended : Bool) where
-  pub no_packet_more : (eqb (refusalNumber why) (refusalNumber BytesMissing) && not ended) ≡ true → wants_more l ≡ no_packet l (refusalNumber why) ended
+module _ (l : Listing) where
+  pub no_packet_more : (why : Refusal) (ended : Bool) → why ≡ BytesMissing → ended ≡ false → wants_more l ≡ no_packet l (refusalNumber why) ended
   unfolding no_packet
-  no_packet_more e = rw e
+  no_packet_more why ended w e = rw (w, e)
 
-  pub no_packet_over : (eqb (refusalNumber why) (refusalNumber BytesMissing) && not ended) ≡ false → ends l (stop_of (refusalNumber why)) ≡ no_packet l (refusalNumber why) ended
-  unfolding no_packet stop_of
-  no_packet_over e = rw (e, ne_eqb (refusalNumber why) 0 (λ z. omega (arith, refusal_above why)))
+  pub no_packet_over : (why : Refusal) (ended : Bool) → (why ≡ BytesMissing → ended ≡ true) → ends l (some (refusalNumber why)) ≡ no_packet l (refusalNumber why) ended
+  unfolding no_packet
+  no_packet_over why ended h = decided (eqb (refusalNumber why) (refusalNumber BytesMissing)) refl
+    where
+      decided : (t : Bool) → eqb (refusalNumber why) (refusalNumber BytesMissing) ≡ t → ends l (some (refusalNumber why)) ≡ no_packet l (refusalNumber why) ended
+      decided true e = rw (e, h (refusal_alike why BytesMissing (eqb-true (refusalNumber why) (refusalNumber BytesMissing) e)))
+      decided false e = rw e
 
 -- ---- a packet that is there
 
@@ -179,8 +234,8 @@ unfolding going
 going_none l [] ended h = refl
 going_none l (b ∷ bs) ended h = absurd (omega arith)
 
-going_full : (l : Listing) (s : List ℕ) (ended : Bool) → (length s ≡ 0 → ⊥) → l.packets ≡ packets_max → ends l (stop_of (refusalNumber TooManyPackets)) ≡ going l s ended
-unfolding going stop_of
+going_full : (l : Listing) (s : List ℕ) (ended : Bool) → (length s ≡ 0 → ⊥) → l.packets ≡ packets_max → ends l (some (refusalNumber TooManyPackets)) ≡ going l s ended
+unfolding going
 going_full l [] ended h e = absurd (h refl)
 going_full l (b ∷ bs) ended h e = rw (eq-eqb l.packets packets_max e)
 
@@ -205,11 +260,11 @@ module _ (l : Listing) (s : List ℕ) (ended : Bool) (room : ℕ) where
   pub no_input : in_range l ≡ true → room_least ≤ room → length s ≡ 0 → at_end l ended ≡ made l s ended room
   no_input e h n = going_none l s ended n ∙ goes e h
 
-  pub too_many : in_range l ≡ true → room_least ≤ room → (length s ≡ 0 → ⊥) → l.packets ≡ packets_max → ends l (stop_of (refusalNumber TooManyPackets)) ≡ made l s ended room
+  pub too_many : in_range l ≡ true → room_least ≤ room → (length s ≡ 0 → ⊥) → l.packets ≡ packets_max → ends l (some (refusalNumber TooManyPackets)) ≡ made l s ended room
   too_many e h n p = going_full l s ended n p ∙ goes e h
 
   module _ (e : in_range l ≡ true) (h : room_least ≤ room) (n : length s ≡ 0 → ⊥) (p : l.packets ≡ packets_max → ⊥) where
-    pub one_packet : (port count used : ℕ) → IsRead s (Received.Packet port count used) → taking l (packet port (take (used - lead_length) (drop lead_length s))) ≡ made l s ended room
+    pub one_packet : (port count used : ℕ) → IsRead s (Ok (record { port = port; count = count; used = used })) → taking l (packet port (take (used - lead_length) (drop lead_length s))) ≡ made l s ended room
     unfolding by_packet
     one_packet port count used q =
         let t = tested s port count used (sym q) in
@@ -219,7 +274,7 @@ module _ (l : Listing) (s : List ℕ) (ended : Bool) (room : ℕ) where
         let by : taking l (packet_in s) ≡ by_packet l s ended = rw zero in
         ap (taking l) is ∙ by ∙ going_on l s ended n p ∙ goes e h
 
-    pub refused_packet : (why : Refusal) → IsRead s (Received.Refused why) → no_packet l (refusalNumber why) ended ≡ made l s ended room
+    pub refused_packet : (why : Refusal) → IsRead s (Err why) → no_packet l (refusalNumber why) ended ≡ made l s ended room
     unfolding by_packet
     refused_packet why q =
         let is : number (packet_at s) ≡ refusalNumber why = ap number (sym q) in

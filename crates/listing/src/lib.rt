@@ -2,19 +2,24 @@
 #![tactic(auto)]
 
 mod drain;
-mod shown;
+mod family;
+mod of_comlynx;
+mod of_drives;
+mod of_eversolar;
+mod of_fronius;
 
 ghost use Rattle.std.specs.Prelude.{◌≡◌, ◌≤◌, length};
+ghost use Rattle.std.proofs.Math.Option.{some};
 ghost use Rattle.answers.specs.Refusal.{number as refusalNumber};
 ghost use Rattle.listing_text.specs.Lines.{end_line};
 ghost use Rattle.listing.specs.Steps.{room_least, unmoved, wants_more, ends, no_packet, at_end, listed, HandsBack, IsFresh, IsStep};
 ghost use Rattle.listing.specs.Inside.{Put, InRange, stop_most, stop_text, stop_of, end_most, finish, took};
 ghost use Rattle.listing.specs.Entries.{last_lines};
 
-use crate::drain::{drain_comlynx, drain_drives, drain_eversolar, drain_fronius};
+use crate::drain::drain_on;
 use answers::Refusal;
-use ports::{COMLYNX, DRIVES, EVERSOLAR, FRONIUS, Ports};
-use uplink::{LEAD, PIECE_MAX, Received};
+use ports::Ports;
+use uplink::{LEAD, PIECE_MAX};
 
 // How many packets are taken.
 pub const PACKETS_MAX: usize = 65536;
@@ -33,7 +38,7 @@ pub struct Listing {
     pub damages: u64,
 }
 
-// What a call came to.
+// What a call came to. No Result: the listing comes back with a refusal too, so `?` would have nothing to hand on.
 #[derive(Clone, Copy)]
 pub enum Heard {
     // the input at hand is the front of a packet, and more is to come: nothing is used or written
@@ -54,9 +59,6 @@ pub struct Listed {
     pub used: usize,
     pub wrote: usize,
 }
-
-// No stop line before the end line.
-const NO_STOP: u8 = 0;
 
 // Whether the counts may be: with so many packets at most, the product and all sums below stay small.
 fn in_range(packets: usize, messages: u64, damages: u64) -> bool
@@ -95,15 +97,15 @@ fn wants_more(l: Listing) -> Listed
 }
 
 // The line of what stops the listing, if something does.
-fn put_stop(stop: u8, out: &mut [u8]) -> usize
+fn put_stop(stop: Option<Refusal>, out: &mut [u8]) -> usize
     requires { room_least ≤ length out.old }
     ensures put { Put (stop_text stop) out.old result out.new }
     ensures upper_bound { result ≤ stop_most }
 {
-    if stop == NO_STOP {
-        return 0;
+    match stop {
+        None => 0,
+        Some(why) => listing_text::stop(why.number(), out).unwrap_or(0),
     }
-    listing_text::stop(stop, out).length()
 }
 
 // The line with the counts.
@@ -112,11 +114,11 @@ fn put_end(messages: u64, damages: u64, out: &mut [u8]) -> usize
     ensures put { Put (end_line messages damages) out.old result out.new }
     ensures upper_bound { result ≤ end_most }
 {
-    listing_text::end(messages, damages, out).length()
+    listing_text::end(messages, damages, out).unwrap_or(0)
 }
 
 // The last lines.
-fn put_last(messages: u64, damages: u64, stop: u8, out: &mut [u8]) -> usize
+fn put_last(messages: u64, damages: u64, stop: Option<Refusal>, out: &mut [u8]) -> usize
     requires { room_least ≤ length out.old }
     ensures { Put (last_lines (stop_of stop) messages damages) out.old result out.new }
 {
@@ -138,12 +140,12 @@ fn finished(l: Listing, wrote: usize) -> Listed
     }
 }
 
-// Nothing more to list: the last lines.
-fn over(l: Listing, stop: u8, out: &mut [u8]) -> Listed
+// Nothing more to list, for what stops it: the last lines.
+fn over(l: Listing, why: Refusal, out: &mut [u8]) -> Listed
     requires { room_least ≤ length out.old }
-    ensures { HandsBack l (ends l (stop_of stop)) out.old result out.new }
+    ensures { HandsBack l (ends l (some (refusalNumber why))) out.old result out.new }
 {
-    let wrote = put_last(l.messages, l.damages, stop, out);
+    let wrote = put_last(l.messages, l.damages, Some(why), out);
     finished(l, wrote)
 }
 
@@ -152,11 +154,10 @@ fn no_packet(l: Listing, why: Refusal, ended: bool, out: &mut [u8]) -> Listed
     requires { room_least ≤ length out.old }
     ensures { HandsBack l (no_packet l (refusalNumber why) ended) out.old result out.new }
 {
-    let n = why.number();
-    if (n == Refusal::BytesMissing.number()) & !ended {
-        return wants_more(l);
+    match why {
+        Refusal::BytesMissing if !ended => wants_more(l),
+        _ => over(l, why, out),
     }
-    over(l, n, out)
 }
 
 // A packet taken: the listing after it.
@@ -178,7 +179,7 @@ fn at_end(l: Listing, ended: bool, out: &mut [u8]) -> Listed
     ensures { HandsBack l (at_end l ended) out.old result out.new }
 {
     if ended {
-        let wrote = put_last(l.messages, l.damages, NO_STOP, out);
+        let wrote = put_last(l.messages, l.damages, None, out);
         return finished(l, wrote);
     }
     wants_more(l)
@@ -199,9 +200,7 @@ impl Listing {
     }
 
     // One packet: that at the front of the input at hand. `ended` says that no more is to come after it. A packet's bytes are used, and its
-    // lines written, all or none. The four ways stand in one long function: each function between would copy the listing, some 800 bytes, once more.
-    // A reader is put back before it is asked whether it was spoilt: a spoilt one comes back as it was. So nothing needs the listing of before,
-    // and no copy of it is kept.
+    // lines written, all or none. The readers are lent and stay where they are: a spoilt one is as it was. So no copy of the listing is kept.
     pub fn step(mut self, input: &[u8], ended: bool, out: &mut [u8]) -> Listed
         ensures { IsStep self input.now ended out.old result out.new }
     {
@@ -215,73 +214,22 @@ impl Listing {
             return at_end(self, ended, out);
         }
         if self.packets == PACKETS_MAX {
-            return over(self, Refusal::TooManyPackets.number(), out);
+            return over(self, Refusal::TooManyPackets, out);
         }
-        let received = uplink::read(input);
-        match received {
-            Received::Packet {
-                port,
-                count: _,
-                used,
-            } => {
-                let piece = &input[LEAD..used];
-                let mut ports = self.ports;
-                if port == COMLYNX {
-                    let reader = ports.comlynx;
-                    let d = drain_comlynx(reader, COMLYNX, piece, out);
-                    let next = d.reader;
-                    ports.comlynx = next;
-                    self.ports = ports;
-                    if d.spoilt {
-                        return refused(self, Refusal::Spoilt);
+        match uplink::read(input) {
+            Ok(packet) => {
+                let piece = &input[LEAD..packet.used];
+                match drain_on(&mut self.ports, packet.port, piece, out) {
+                    Ok(d) => {
+                        self.packets += 1;
+                        self.messages += d.messages;
+                        self.damages += d.damages;
+                        taken(self, packet.used, d.wrote)
                     }
-                    self.packets += 1;
-                    self.messages += d.messages;
-                    self.damages += d.damages;
-                    return taken(self, LEAD + piece.len(), d.wrote);
+                    Err(why) => refused(self, why),
                 }
-                if port == EVERSOLAR {
-                    let reader = ports.eversolar;
-                    let d = drain_eversolar(reader, EVERSOLAR, piece, out);
-                    let next = d.reader;
-                    ports.eversolar = next;
-                    self.ports = ports;
-                    if d.spoilt {
-                        return refused(self, Refusal::Spoilt);
-                    }
-                    self.packets += 1;
-                    self.messages += d.messages;
-                    self.damages += d.damages;
-                    return taken(self, LEAD + piece.len(), d.wrote);
-                }
-                if port == FRONIUS {
-                    let reader = ports.fronius;
-                    let d = drain_fronius(reader, FRONIUS, piece, out);
-                    let next = d.reader;
-                    ports.fronius = next;
-                    self.ports = ports;
-                    if d.spoilt {
-                        return refused(self, Refusal::Spoilt);
-                    }
-                    self.packets += 1;
-                    self.messages += d.messages;
-                    self.damages += d.damages;
-                    return taken(self, LEAD + piece.len(), d.wrote);
-                }
-                let reader = ports.drives;
-                let d = drain_drives(reader, DRIVES, piece, out);
-                let next = d.reader;
-                ports.drives = next;
-                self.ports = ports;
-                if d.spoilt {
-                    return refused(self, Refusal::Spoilt);
-                }
-                self.packets += 1;
-                self.messages += d.messages;
-                self.damages += d.damages;
-                taken(self, LEAD + piece.len(), d.wrote)
             }
-            Received::Refused(why) => no_packet(self, why, ended, out),
+            Err(why) => no_packet(self, why, ended, out),
         }
     }
 }

@@ -4,7 +4,7 @@ use Rattle.std.proofs.Math.Pow.{are_bytes}
 use Rattle.answers.specs.Answer.{answer}
 use Rattle.answers.specs.Written as Written
 use Rattle.answers.specs.declared.Refusal.{Refusal}
-use Rattle.answers.specs.declared.Written.{Written}
+use Rattle.answers.specs.Written.{Written}
 use Rattle.stream.specs.Event.{Event, message}
 use Rattle.stream.specs.Written.{written, Each}
 use Rattle.uplink.specs.Packet as Uplink

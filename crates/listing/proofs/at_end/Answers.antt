@@ -1,12 +1,12 @@
 -- `at_end` meets its promise: by its one test.
 use mathlib.Core.Path.{refl, ap}
 use Rattle.listing.specs.Steps.{wants_more, at_end}
-use Rattle.listing.specs.Inside.{stop_of, finish}
+use Rattle.listing.specs.Inside.{finish}
 use Rattle.listing.proofs.StepMakes.{nothing}
 use Rattle.listing.proofs.at_end.Goals as goal
 
 pub returns-then-ended : goal.returns-then-ended
-unfolding at_end stop_of
+unfolding at_end
 returns-then-ended c =
     let l = c.args.l in
     let p = c.put_last-wrote.ensures in

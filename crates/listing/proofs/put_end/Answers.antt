@@ -12,5 +12,5 @@ returns c =
     let a = c.args in
     let e = c.end in
     let most = end_most_lem a.messages a.damages (omega arith) (omega arith) in
-    let put = put_line false (end_line a.messages a.damages) a.out.now e.new.lent e.result c.length.result e.ensures refl (omega arith) c.length.ensures in
+    let put = put_line false (end_line a.messages a.damages) a.out.now e.new.lent e.result c.unwrap_or.result e.ensures refl (omega arith) c.unwrap_or.ensures in
     record { put = put; upper_bound = omega (arith, put.0) }

@@ -1,4 +1,4 @@
--- `drives_line`: the line of its message is written where there is room.
+-- The line of a message is written where there is room.
 use native.Mathlib.Omega.{arith}
 use lib.ListN.{length-take}
 use Rattle.drives.specs.Reader.{join}
@@ -6,10 +6,10 @@ use Rattle.listing_text.specs.Lines.{Shown, too_long, message_line}
 use Rattle.listing_text.proofs.LineLengths.{not_too_long}
 use Rattle.listing.specs.Entries.{show_drives}
 use Rattle.listing.proofs.DrainReadsPiece.{put_line}
-use Rattle.listing.proofs.shown.drives_line.Goals as goal
+use Rattle.listing.proofs.of_drives.DrivesReaderFamily.line.Goals as goal
 
 pub returns : goal.returns
 returns c =
-    let given : Shown = show_drives (join c.args.h c.args.payload.now) in
+    let given : Shown = show_drives (join c.args.header c.args.payload.now) in
     let short = not_too_long given (omega arith) (omega arith) (omega arith) (simp length-take (omega (arith, c.requires.0))) in
-    put_line (too_long given) (message_line c.args.port given) c.args.out.now _ c.message_1_2_1.result _ c.message_1_2_1.ensures short c.requires.2 c.length.ensures
+    put_line (too_long given) (message_line c.args.port given) c.args.out.now _ c.message_1_2_1.result _ c.message_1_2_1.ensures short c.requires.2 c.unwrap_or.ensures
