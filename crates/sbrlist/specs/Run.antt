@@ -21,8 +21,8 @@ part from to buffer = take (to - from) (drop from buffer)
 abbrev pub moved_front : (from to : ℕ) → List ℕ → List ℕ
 moved_front from to buffer = part from to buffer ++ drop (to - from) buffer
 
--- `read_on`, of the buffer, what was at hand, the result and the buffer afterwards: what was at hand stands at the front, and behind it what the read
--- brought; that is nothing where the input has ended or the read failed, and only there
+-- `read_on`, where the read did not fail, of the buffer, what was at hand, what is now and the buffer afterwards: what was at hand stands at the front, and
+-- behind it what the read brought; that is nothing where the input has ended, and only there
 pub record IsReadOn (buffer : List ℕ) (from to : ℕ) (r : Window) (later : List ℕ) : Type 0 where
   pub at_front : r.from ≡ 0
   pub inside : r.to ≤ length buffer

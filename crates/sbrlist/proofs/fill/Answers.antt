@@ -96,11 +96,5 @@ loop-preserved c =
 pub returns-in-More : goal.returns-in-More
 returns-in-More c = ended_up (goal.at.returns-in-More c).After-step-s
 
-pub returns-in-End : goal.returns-in-End
-returns-in-End c = ended_up (goal.at.returns-in-End c).After-step-s
-
-pub returns-in-Refused : goal.returns-in-Refused
-returns-in-Refused c = ended_up (goal.at.returns-in-Refused c).After-step-s
-
 pub returns-then-out-at-lt-ROOM : goal.returns-then-out-at-lt-ROOM
 returns-then-out-at-lt-ROOM c = ended_up (goal.at.returns-then-out-at-lt-ROOM c).After-step-s

@@ -4,9 +4,9 @@ use Rattle.sbrlist.specs.Run.{part, Ran}
 use Rattle.sbrlist.proofs.ProgramEnds.{left}
 use Rattle.sbrlist.proofs.list.Given as goal
 
-abbrev pub invariant-loop-s : goal.invariant-loop-s
-invariant-loop-s g l =
+abbrev pub invariant-loop-heard : goal.invariant-loop-heard
+invariant-loop-heard g l =
     (l.from ≤ l.to) × (l.to ≤ length l.input) × (length l.input ≡ length l.initial.input) × Ran (part l.from l.to l.input) l.ended l.s.listing
 
-abbrev pub decreases-loop-s : goal.decreases-loop-s
-decreases-loop-s g l = left l.s.listing.packets (l.to - l.from) l.ended
+abbrev pub decreases-loop-heard : goal.decreases-loop-heard
+decreases-loop-heard g l = left l.s.listing.packets (l.to - l.from) l.ended

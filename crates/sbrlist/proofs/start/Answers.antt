@@ -4,4 +4,4 @@ use Rattle.sbrlist.proofs.ProgramEnds.{started}
 use Rattle.sbrlist.proofs.start.Goals as goal
 
 pub returns : goal.returns
-returns c = started _ _ c.title.result _ c.title.ensures (omega arith) c.length.ensures
+returns c = started _ _ c.title.result _ c.title.ensures (omega arith) c.unwrap_or.ensures
