@@ -4,10 +4,9 @@
 
 mod input;
 
-ghost use Rattle.std.specs.Prelude.{◌≤◌, length};
+ghost use Rattle.std.specs.Prelude.{◌≤◌};
 
 use input::read_full;
-use numbers::{least, wide};
 use std::io::Stdout;
 use test_parts::{COMLYNX, DRIVES, EVERSOLAR, FRONIUS, LARGE, word_at};
 
@@ -25,7 +24,7 @@ const WHOLE: usize = 65536;
 // 53 or in 59 instructions (docs/PERFORMANCE.md).
 const LENT: usize = 272;
 
-#[derive(Drop)]
+#[derive(Clone, Copy)]
 struct Tally {
     messages: u64,
     // the damages, and HALF times the bytes lost with them: one number, since a field more would cost the host's loop a register
@@ -47,22 +46,13 @@ fn piece_end(at: usize, end: usize, piece: usize, len: usize) -> usize
     }
 }
 
-// The first `n` bytes added up.
-fn total_of(s: &[u8], n: usize) -> u64
-    requires { n ≤ length s.now }
-{
-    let mut sum: u64 = 0;
-    let mut i: usize = 0;
-    while i < n {
-        sum = std::num::wrapping_add_u64(sum, wide(s[i]) as u64);
-        i += 1;
+// Bytes added up, onto a first number.
+fn total_of(s: &[u8], first: u64) -> u64 {
+    let mut sum = first;
+    for b in s {
+        sum = sum.wrapping_add(u64::from(*b));
     }
     sum
-}
-
-// The sum of two numbers, modulo 2 to the 64.
-fn plus(a: u64, b: u64) -> u64 {
-    std::num::wrapping_add_u64(a, b)
 }
 
 // What is counted before the first call.
@@ -76,48 +66,47 @@ fn none() -> Tally {
 
 // One message more, by its code byte and its length. Its number in the stream, its code and its data all count in the check number.
 fn one_more(t: Tally, code: u8, len: usize, lent: &[u8]) -> Tally {
-    let told = plus(code as u64, total_of(lent, least(len, lent.len())));
+    let told = total_of(&lent[..len.min(lent.len())], u64::from(code));
     Tally {
-        messages: plus(t.messages, 1),
-        damages: t.damages,
-        check: plus(plus(t.check, plus(t.check, t.check)), told),
+        messages: t.messages.wrapping_add(1),
+        check: t.check.wrapping_mul(3).wrapping_add(told),
+        ..t
     }
 }
 
 // One damage more, with so many bytes lost.
 fn one_worse(t: Tally, lost: u16) -> Tally {
+    let damage = HALF * u64::from(lost) + 1;
     Tally {
-        messages: t.messages,
-        damages: plus(t.damages, HALF * (lost as u64) + 1),
-        check: t.check,
+        damages: t.damages.wrapping_add(damage),
+        ..t
     }
 }
 
-// Two functions a family, the same but for its reader and its code byte: what an answer adds, and the loop over the pieces. A call that uses
-// nothing is a refusal.
+// Two functions a family, the same but for its reader and its code byte: what an answer adds, and the loop over the pieces. It is no `for`, since each turn
+// goes on from the bytes that it used; a call that uses nothing is a refusal. One loop over a trait of the four was tried: it took 31.0 instructions a byte
+// in place of 29.5 for Eversolar without data in pieces of 16, above what bench/run allows.
 fn comlynx_told(t: Tally, answer: comlynx::Answer, lent: &[u8]) -> Tally {
     match answer {
-        comlynx::Answer::Done => t,
         comlynx::Answer::Message(h) => one_more(t, h.kind, h.len, lent),
         comlynx::Answer::Damaged { what: _, lost } => one_worse(t, lost),
-        comlynx::Answer::Refused(_) => t,
+        comlynx::Answer::Done | comlynx::Answer::Refused(_) => t,
     }
 }
 
 fn of_comlynx(input: &[u8], piece: usize, lent: &mut [u8]) -> Tally {
     let reader = comlynx::Reader::fresh();
     let mut held = reader.held;
-    let answer = comlynx::Answer::Done;
     let mut s = comlynx::StepInPlace {
         stage: reader.stage,
         came: reader.came,
         count: reader.count,
-        answer,
+        answer: comlynx::Answer::Done,
         used: 0,
     };
     let mut t = none();
-    let mut at: usize = 0;
-    let mut end: usize = 0;
+    let mut at = 0;
+    let mut end = 0;
     while at < input.len() {
         end = piece_end(at, end, piece, input.len());
         s = comlynx::step_in_place(s.stage, s.came, s.count, &mut held, &input[at..end], lent);
@@ -125,35 +114,32 @@ fn of_comlynx(input: &[u8], piece: usize, lent: &mut [u8]) -> Tally {
             break;
         }
         at += s.used;
-        let answer = s.answer;
-        t = comlynx_told(t, answer, &*lent);
+        t = comlynx_told(t, s.answer, lent);
     }
     t
 }
 
 fn eversolar_told(t: Tally, answer: eversolar::Answer, lent: &[u8]) -> Tally {
     match answer {
-        eversolar::Answer::Done => t,
         eversolar::Answer::Message(h) => one_more(t, h.function, h.len, lent),
         eversolar::Answer::Damaged { what: _, lost } => one_worse(t, lost),
-        eversolar::Answer::Refused(_) => t,
+        eversolar::Answer::Done | eversolar::Answer::Refused(_) => t,
     }
 }
 
 fn of_eversolar(input: &[u8], piece: usize, lent: &mut [u8]) -> Tally {
     let reader = eversolar::Reader::fresh();
     let mut held = reader.held;
-    let answer = eversolar::Answer::Done;
     let mut s = eversolar::StepInPlace {
         stage: reader.stage,
         count: reader.count,
         len: reader.len,
-        answer,
+        answer: eversolar::Answer::Done,
         used: 0,
     };
     let mut t = none();
-    let mut at: usize = 0;
-    let mut end: usize = 0;
+    let mut at = 0;
+    let mut end = 0;
     while at < input.len() {
         end = piece_end(at, end, piece, input.len());
         s = eversolar::step_in_place(s.stage, s.count, s.len, &mut held, &input[at..end], lent);
@@ -161,35 +147,32 @@ fn of_eversolar(input: &[u8], piece: usize, lent: &mut [u8]) -> Tally {
             break;
         }
         at += s.used;
-        let answer = s.answer;
-        t = eversolar_told(t, answer, &*lent);
+        t = eversolar_told(t, s.answer, lent);
     }
     t
 }
 
 fn fronius_told(t: Tally, answer: fronius::Answer, lent: &[u8]) -> Tally {
     match answer {
-        fronius::Answer::Done => t,
         fronius::Answer::Message(h) => one_more(t, h.command, h.len, lent),
         fronius::Answer::Damaged { what: _, lost } => one_worse(t, lost),
-        fronius::Answer::Refused(_) => t,
+        fronius::Answer::Done | fronius::Answer::Refused(_) => t,
     }
 }
 
 fn of_fronius(input: &[u8], piece: usize, lent: &mut [u8]) -> Tally {
     let reader = fronius::Reader::fresh();
     let mut held = reader.held;
-    let answer = fronius::Answer::Done;
     let mut s = fronius::StepInPlace {
         stage: reader.stage,
         count: reader.count,
         len: reader.len,
-        answer,
+        answer: fronius::Answer::Done,
         used: 0,
     };
     let mut t = none();
-    let mut at: usize = 0;
-    let mut end: usize = 0;
+    let mut at = 0;
+    let mut end = 0;
     while at < input.len() {
         end = piece_end(at, end, piece, input.len());
         s = fronius::step_in_place(s.stage, s.count, s.len, &mut held, &input[at..end], lent);
@@ -197,34 +180,31 @@ fn of_fronius(input: &[u8], piece: usize, lent: &mut [u8]) -> Tally {
             break;
         }
         at += s.used;
-        let answer = s.answer;
-        t = fronius_told(t, answer, &*lent);
+        t = fronius_told(t, s.answer, lent);
     }
     t
 }
 
 fn drives_told(t: Tally, answer: drives::Answer, lent: &[u8]) -> Tally {
     match answer {
-        drives::Answer::Done => t,
         drives::Answer::Message(h) => one_more(t, h.letter, h.len, lent),
         drives::Answer::Damaged { what: _, lost } => one_worse(t, lost),
-        drives::Answer::Refused(_) => t,
+        drives::Answer::Done | drives::Answer::Refused(_) => t,
     }
 }
 
 fn of_drives(input: &[u8], piece: usize, lent: &mut [u8]) -> Tally {
     let reader = drives::Reader::fresh();
     let mut held = reader.held;
-    let answer = drives::Answer::Done;
     let mut s = drives::StepInPlace {
         stage: reader.stage,
         count: reader.count,
-        answer,
+        answer: drives::Answer::Done,
         used: 0,
     };
     let mut t = none();
-    let mut at: usize = 0;
-    let mut end: usize = 0;
+    let mut at = 0;
+    let mut end = 0;
     while at < input.len() {
         end = piece_end(at, end, piece, input.len());
         s = drives::step_in_place(s.stage, s.count, &mut held, &input[at..end], lent);
@@ -232,32 +212,25 @@ fn of_drives(input: &[u8], piece: usize, lent: &mut [u8]) -> Tally {
             break;
         }
         at += s.used;
-        let answer = s.answer;
-        t = drives_told(t, answer, &*lent);
+        t = drives_told(t, s.answer, lent);
     }
     t
 }
 
 // The family is chosen once, outside the loop.
 fn tally_of(family: u8, input: &[u8], piece: usize, lent: &mut [u8]) -> Tally {
-    if family == COMLYNX {
-        return of_comlynx(input, piece, lent);
+    match family {
+        COMLYNX => of_comlynx(input, piece, lent),
+        EVERSOLAR => of_eversolar(input, piece, lent),
+        FRONIUS => of_fronius(input, piece, lent),
+        DRIVES => of_drives(input, piece, lent),
+        _ => none(),
     }
-    if family == EVERSOLAR {
-        return of_eversolar(input, piece, lent);
-    }
-    if family == FRONIUS {
-        return of_fronius(input, piece, lent);
-    }
-    if family == DRIVES {
-        return of_drives(input, piece, lent);
-    }
-    none()
 }
 
 // How long a piece is, by what the input says.
 fn piece_of(said: u16) -> usize {
-    if said == 0 { WHOLE } else { said as usize }
+    if said == 0 { WHOLE } else { usize::from(said) }
 }
 
 fn print(out: Stdout, n: u64, after: &[u8]) {
@@ -268,7 +241,7 @@ fn print(out: Stdout, n: u64, after: &[u8]) {
 fn show(out: Stdout, family: u8, piece: usize, input: &[u8]) {
     let mut lent = [0u8; LENT];
     let tally = tally_of(family, input, piece, &mut lent);
-    print(out, family as u64, b" ");
+    print(out, u64::from(family), b" ");
     print(out, tally.messages, b" ");
     print(out, tally.damages % HALF, b" ");
     print(out, tally.damages / HALF, b" ");

@@ -10,6 +10,7 @@ pub(crate) fn read_full<R: Read>(input: &mut R, buffer: &mut [u8]) -> usize
     ensures bytes { Consumes (R.remaining input.old) (R.remaining input.new) (take result buffer.new) }
 {
     let mut done: usize = 0;
+    // No `for`: a read brings any number of bytes.
     while done < buffer.len() {
         match input.read(&mut buffer[done..]) {
             Ok(0) => break,

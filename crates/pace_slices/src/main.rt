@@ -4,10 +4,7 @@
 
 mod input;
 
-ghost use Rattle.std.specs.Prelude.{◌≤◌, length};
-
 use input::read_full;
-use numbers::{least, wide};
 use std::io::Stdout;
 use test_parts::{COMLYNX, DRIVES, EVERSOLAR, FRONIUS, LARGE};
 
@@ -19,7 +16,7 @@ const FRAMES: usize = 3;
 // What the readers are lent: as much as in `pace_reading`.
 const LENT: usize = 272;
 
-#[derive(Drop)]
+#[derive(Clone, Copy)]
 struct Tally {
     messages: u64,
     // the damages, and HALF times the bytes lost with them: one number, since a field more would cost the host's loop a register
@@ -29,22 +26,13 @@ struct Tally {
 
 const HALF: u64 = 4294967296;
 
-// The first `n` bytes added up.
-fn total_of(s: &[u8], n: usize) -> u64
-    requires { n ≤ length s.now }
-{
+// Bytes added up.
+fn total_of(s: &[u8]) -> u64 {
     let mut sum: u64 = 0;
-    let mut i: usize = 0;
-    while i < n {
-        sum = std::num::wrapping_add_u64(sum, wide(s[i]) as u64);
-        i += 1;
+    for b in s {
+        sum = sum.wrapping_add(u64::from(*b));
     }
     sum
-}
-
-// The sum of two numbers, modulo 2 to the 64.
-fn plus(a: u64, b: u64) -> u64 {
-    std::num::wrapping_add_u64(a, b)
 }
 
 // What is counted before the first call.
@@ -58,136 +46,134 @@ fn none() -> Tally {
 
 // One message more, by its code byte and its length. Its number in the stream, its code and its data all count in the check number.
 fn one_more(t: Tally, code: u8, len: usize, lent: &[u8]) -> Tally {
-    let told = plus(code as u64, total_of(lent, least(len, lent.len())));
+    let told = u64::from(code).wrapping_add(total_of(&lent[..len.min(lent.len())]));
     Tally {
-        messages: plus(t.messages, 1),
-        damages: t.damages,
-        check: plus(plus(t.check, plus(t.check, t.check)), told),
+        messages: t.messages.wrapping_add(1),
+        check: t.check.wrapping_mul(3).wrapping_add(told),
+        ..t
     }
 }
 
 // One damage more, with so many bytes lost.
 fn one_worse(t: Tally, lost: u16) -> Tally {
+    let damage = HALF * u64::from(lost) + 1;
     Tally {
-        messages: t.messages,
-        damages: plus(t.damages, HALF * (lost as u64) + 1),
-        check: t.check,
+        damages: t.damages.wrapping_add(damage),
+        ..t
     }
 }
 
-// Two functions a family, the same but for its reader and its code byte: what an answer adds, and the loop over the slice. A place that is not past
-// the one asked from comes with a refusal.
-fn comlynx_told(t: Tally, answer: comlynx::Answer, lent: &[u8]) -> Tally {
-    match answer {
-        comlynx::Answer::Done => t,
-        comlynx::Answer::Message(h) => one_more(t, h.kind, h.len, lent),
-        comlynx::Answer::Damaged { what: _, lost } => one_worse(t, lost),
-        comlynx::Answer::Refused(_) => t,
+// A family, by its reader of slices and its code byte.
+trait Family {
+    type Answer: Copy;
+
+    // Asks the slice from a place. Gives a place too: one that is not past the one asked from comes with a refusal.
+    fn ask(input: &[u8], at: usize, lent: &mut [u8]) -> (usize, Self::Answer);
+
+    // What an answer adds.
+    fn told(t: Tally, answer: Self::Answer, lent: &[u8]) -> Tally;
+}
+
+struct ComLynx;
+
+struct Eversolar;
+
+struct Fronius;
+
+struct Drives;
+
+impl Family for ComLynx {
+    type Answer = comlynx::Answer;
+
+    fn ask(input: &[u8], at: usize, lent: &mut [u8]) -> (usize, comlynx::Answer) {
+        let found = comlynx::answer_at(input, at, lent);
+        (found.place, found.answer)
+    }
+
+    fn told(t: Tally, answer: comlynx::Answer, lent: &[u8]) -> Tally {
+        match answer {
+            comlynx::Answer::Message(h) => one_more(t, h.kind, h.len, lent),
+            comlynx::Answer::Damaged { what: _, lost } => one_worse(t, lost),
+            comlynx::Answer::Done | comlynx::Answer::Refused(_) => t,
+        }
     }
 }
 
-fn of_comlynx(input: &[u8], lent: &mut [u8]) -> Tally {
+impl Family for Eversolar {
+    type Answer = eversolar::Answer;
+
+    fn ask(input: &[u8], at: usize, lent: &mut [u8]) -> (usize, eversolar::Answer) {
+        let found = eversolar::answer_at(input, at, lent);
+        (found.place, found.answer)
+    }
+
+    fn told(t: Tally, answer: eversolar::Answer, lent: &[u8]) -> Tally {
+        match answer {
+            eversolar::Answer::Message(h) => one_more(t, h.function, h.len, lent),
+            eversolar::Answer::Damaged { what: _, lost } => one_worse(t, lost),
+            eversolar::Answer::Done | eversolar::Answer::Refused(_) => t,
+        }
+    }
+}
+
+impl Family for Fronius {
+    type Answer = fronius::Answer;
+
+    fn ask(input: &[u8], at: usize, lent: &mut [u8]) -> (usize, fronius::Answer) {
+        let found = fronius::answer_at(input, at, lent);
+        (found.place, found.answer)
+    }
+
+    fn told(t: Tally, answer: fronius::Answer, lent: &[u8]) -> Tally {
+        match answer {
+            fronius::Answer::Message(h) => one_more(t, h.command, h.len, lent),
+            fronius::Answer::Damaged { what: _, lost } => one_worse(t, lost),
+            fronius::Answer::Done | fronius::Answer::Refused(_) => t,
+        }
+    }
+}
+
+impl Family for Drives {
+    type Answer = drives::Answer;
+
+    fn ask(input: &[u8], at: usize, lent: &mut [u8]) -> (usize, drives::Answer) {
+        let found = drives::answer_at(input, at, lent);
+        (found.place, found.answer)
+    }
+
+    fn told(t: Tally, answer: drives::Answer, lent: &[u8]) -> Tally {
+        match answer {
+            drives::Answer::Message(h) => one_more(t, h.letter, h.len, lent),
+            drives::Answer::Damaged { what: _, lost } => one_worse(t, lost),
+            drives::Answer::Done | drives::Answer::Refused(_) => t,
+        }
+    }
+}
+
+// The loop over the slice. It is no `for`, since each turn goes on from the place that it was given.
+fn of<F: Family>(input: &[u8], lent: &mut [u8]) -> Tally {
     let mut t = none();
-    let mut at: usize = 0;
+    let mut at = 0;
     while at < input.len() {
-        let f = comlynx::answer_at(input, at, lent);
-        if f.place <= at {
+        let (place, answer) = F::ask(input, at, lent);
+        if place <= at {
             break;
         }
-        at = f.place;
-        let answer = f.answer;
-        t = comlynx_told(t, answer, &*lent);
-    }
-    t
-}
-
-fn eversolar_told(t: Tally, answer: eversolar::Answer, lent: &[u8]) -> Tally {
-    match answer {
-        eversolar::Answer::Done => t,
-        eversolar::Answer::Message(h) => one_more(t, h.function, h.len, lent),
-        eversolar::Answer::Damaged { what: _, lost } => one_worse(t, lost),
-        eversolar::Answer::Refused(_) => t,
-    }
-}
-
-fn of_eversolar(input: &[u8], lent: &mut [u8]) -> Tally {
-    let mut t = none();
-    let mut at: usize = 0;
-    while at < input.len() {
-        let f = eversolar::answer_at(input, at, lent);
-        if f.place <= at {
-            break;
-        }
-        at = f.place;
-        let answer = f.answer;
-        t = eversolar_told(t, answer, &*lent);
-    }
-    t
-}
-
-fn fronius_told(t: Tally, answer: fronius::Answer, lent: &[u8]) -> Tally {
-    match answer {
-        fronius::Answer::Done => t,
-        fronius::Answer::Message(h) => one_more(t, h.command, h.len, lent),
-        fronius::Answer::Damaged { what: _, lost } => one_worse(t, lost),
-        fronius::Answer::Refused(_) => t,
-    }
-}
-
-fn of_fronius(input: &[u8], lent: &mut [u8]) -> Tally {
-    let mut t = none();
-    let mut at: usize = 0;
-    while at < input.len() {
-        let f = fronius::answer_at(input, at, lent);
-        if f.place <= at {
-            break;
-        }
-        at = f.place;
-        let answer = f.answer;
-        t = fronius_told(t, answer, &*lent);
-    }
-    t
-}
-
-fn drives_told(t: Tally, answer: drives::Answer, lent: &[u8]) -> Tally {
-    match answer {
-        drives::Answer::Done => t,
-        drives::Answer::Message(h) => one_more(t, h.letter, h.len, lent),
-        drives::Answer::Damaged { what: _, lost } => one_worse(t, lost),
-        drives::Answer::Refused(_) => t,
-    }
-}
-
-fn of_drives(input: &[u8], lent: &mut [u8]) -> Tally {
-    let mut t = none();
-    let mut at: usize = 0;
-    while at < input.len() {
-        let f = drives::answer_at(input, at, lent);
-        if f.place <= at {
-            break;
-        }
-        at = f.place;
-        let answer = f.answer;
-        t = drives_told(t, answer, &*lent);
+        at = place;
+        t = F::told(t, answer, lent);
     }
     t
 }
 
 // The family is chosen once, outside the loop.
 fn tally_of(family: u8, input: &[u8], lent: &mut [u8]) -> Tally {
-    if family == COMLYNX {
-        return of_comlynx(input, lent);
+    match family {
+        COMLYNX => of::<ComLynx>(input, lent),
+        EVERSOLAR => of::<Eversolar>(input, lent),
+        FRONIUS => of::<Fronius>(input, lent),
+        DRIVES => of::<Drives>(input, lent),
+        _ => none(),
     }
-    if family == EVERSOLAR {
-        return of_eversolar(input, lent);
-    }
-    if family == FRONIUS {
-        return of_fronius(input, lent);
-    }
-    if family == DRIVES {
-        return of_drives(input, lent);
-    }
-    none()
 }
 
 fn print(out: Stdout, n: u64, after: &[u8]) {
@@ -198,7 +184,7 @@ fn print(out: Stdout, n: u64, after: &[u8]) {
 fn show(out: Stdout, family: u8, input: &[u8]) {
     let mut lent = [0u8; LENT];
     let tally = tally_of(family, input, &mut lent);
-    print(out, family as u64, b" ");
+    print(out, u64::from(family), b" ");
     print(out, tally.messages, b" ");
     print(out, tally.damages % HALF, b" ");
     print(out, tally.damages / HALF, b" ");

@@ -5,9 +5,8 @@
 
 mod input;
 
-use answers::Written;
+use answers::Refusal;
 use input::read_full;
-use numbers::{least, wide};
 use std::io::Stdout;
 use test_parts::{COMLYNX, DRIVES, EVERSOLAR, FRONIUS, LARGE, size_at, word_at};
 
@@ -35,10 +34,10 @@ const REFUSED: usize = 1000;
 
 // What a call told as one number: the length and the byte looked at, or a refusal. Nobody knows before which byte that is, so that no call can be
 // left out whose bytes the next call writes over.
-fn told(w: Written, lent: &[u8], look: usize) -> usize {
-    match w {
-        Written::Done(length) => std::num::wrapping_add_usize(length, size_at(lent, look)),
-        Written::Refused(why) => REFUSED + wide(why.number()),
+fn told(written: Result<usize, Refusal>, lent: &[u8], look: usize) -> usize {
+    match written {
+        Ok(length) => length.wrapping_add(size_at(lent, look)),
+        Err(why) => REFUSED + usize::from(why.number()),
     }
 }
 
@@ -48,114 +47,78 @@ fn digit(n: u16) -> u8 {
     if low < 10 { 0x30 + low } else { 0x37 + low }
 }
 
-// One loop a family. A number of the message counts up, so that no two calls write the same.
-fn comlynx_frames(times: u16, look: usize, bytes: &[u8], lent: &mut [u8]) -> usize {
-    let mut sum: usize = 0;
-    let mut n: u16 = 0;
-    while n < times {
-        let w = comlynx::write(n, 0x11ff, 0x15, bytes, lent);
-        sum = std::num::wrapping_add_usize(sum, told(w, &*lent, look));
-        n += 1;
-    }
-    sum
+// One message of each family. A number of it counts up, so that no two calls write the same.
+fn comlynx_frame(n: u16, bytes: &[u8], lent: &mut [u8]) -> Result<usize, Refusal> {
+    comlynx::write(n, 0x11ff, 0x15, bytes, lent)
 }
 
-fn eversolar_frames(times: u16, look: usize, bytes: &[u8], lent: &mut [u8]) -> usize {
-    let mut sum: usize = 0;
-    let mut n: u16 = 0;
-    while n < times {
-        let high = (n / 256) as u8;
-        let low = (n % 256) as u8;
-        let w = eversolar::write(1, 0, high, low, 0x11, 0x02, bytes, lent);
-        sum = std::num::wrapping_add_usize(sum, told(w, &*lent, look));
-        n += 1;
-    }
-    sum
+fn eversolar_frame(n: u16, bytes: &[u8], lent: &mut [u8]) -> Result<usize, Refusal> {
+    let [high, low] = n.to_be_bytes();
+    eversolar::write(1, 0, high, low, 0x11, 0x02, bytes, lent)
 }
 
-fn fronius_frames(times: u16, look: usize, bytes: &[u8], lent: &mut [u8]) -> usize {
-    let mut sum: usize = 0;
-    let mut n: u16 = 0;
-    while n < times {
-        let high = (n / 256) as u8;
-        let low = (n % 256) as u8;
-        let w = fronius::write(1, high, low, bytes, lent);
-        sum = std::num::wrapping_add_usize(sum, told(w, &*lent, look));
-        n += 1;
-    }
-    sum
+fn fronius_frame(n: u16, bytes: &[u8], lent: &mut [u8]) -> Result<usize, Refusal> {
+    let [high, low] = n.to_be_bytes();
+    fronius::write(1, high, low, bytes, lent)
 }
 
 // The station counts up where the others have a number: its two characters go through all that are in the set.
-fn drives_frames(times: u16, look: usize, bytes: &[u8], lent: &mut [u8]) -> usize {
+fn drives_frame(n: u16, bytes: &[u8], lent: &mut [u8]) -> Result<usize, Refusal> {
+    drives::write(0x05, digit(n / 16), digit(n), 0x52, bytes, lent)
+}
+
+// So many messages of a family.
+fn frames<W: Fn(u16, &[u8], &mut [u8]) -> Result<usize, Refusal>>(
+    write: W,
+    times: u16,
+    look: usize,
+    bytes: &[u8],
+    lent: &mut [u8],
+) -> usize
+    requires { W.IsAlwaysCallable write }
+{
     let mut sum: usize = 0;
-    let mut n: u16 = 0;
-    while n < times {
-        let first = digit(n / 16);
-        let second = digit(n);
-        let w = drives::write(0x05, first, second, 0x52, bytes, lent);
-        sum = std::num::wrapping_add_usize(sum, told(w, &*lent, look));
-        n += 1;
+    for n in 0..times {
+        let written = write(n, bytes, lent);
+        sum = sum.wrapping_add(told(written, lent, look));
     }
     sum
 }
 
-// Each checksum goes on from the one before, so that none can be left out.
-fn checksums(times: u16, bytes: &[u8]) -> u16 {
+// So many checksums. Each goes on from the one before, so that none can be left out.
+fn checksums<M: Fn(u16, &[u8]) -> u16>(more: M, times: u16, bytes: &[u8]) -> usize
+    requires { M.IsAlwaysCallable more }
+{
     let mut state: u16 = 0xffff;
-    let mut n: u16 = 0;
-    while n < times {
-        state = comlynx_checksum::more(state, bytes);
-        n += 1;
+    for _ in 0..times {
+        state = more(state, bytes);
     }
-    state
-}
-
-fn checksums_bitwise(times: u16, bytes: &[u8]) -> u16 {
-    let mut state: u16 = 0xffff;
-    let mut n: u16 = 0;
-    while n < times {
-        state = comlynx_checksum_bitwise::more(state, bytes);
-        n += 1;
-    }
-    state
+    usize::from(state)
 }
 
 // What is called is chosen once, outside the loop.
 fn sum_of(what: u8, times: u16, look: usize, bytes: &[u8], lent: &mut [u8]) -> usize {
-    if what == COMLYNX {
-        return comlynx_frames(times, look, bytes, lent);
+    match what {
+        COMLYNX => frames(comlynx_frame, times, look, bytes, lent),
+        EVERSOLAR => frames(eversolar_frame, times, look, bytes, lent),
+        FRONIUS => frames(fronius_frame, times, look, bytes, lent),
+        DRIVES => frames(drives_frame, times, look, bytes, lent),
+        CHECKSUM => checksums(comlynx_checksum::more, times, bytes),
+        CHECKSUM_BITWISE => checksums(comlynx_checksum_bitwise::more, times, bytes),
+        _ => 0,
     }
-    if what == EVERSOLAR {
-        return eversolar_frames(times, look, bytes, lent);
-    }
-    if what == FRONIUS {
-        return fronius_frames(times, look, bytes, lent);
-    }
-    if what == DRIVES {
-        return drives_frames(times, look, bytes, lent);
-    }
-    if what == CHECKSUM {
-        return checksums(times, bytes) as usize;
-    }
-    if what == CHECKSUM_BITWISE {
-        return checksums_bitwise(times, bytes) as usize;
-    }
-    0
 }
 
 fn show(out: Stdout, what: u8, times: u16, look: usize, bytes: &[u8], lent: &mut [u8]) {
     let sum = sum_of(what, times, look, bytes, lent);
-    let _ = print!(out; "{sum}");
-    let _ = out.write_all(b"\n");
-    let _ = out.write_all(&*lent);
+    let _ = println!(out; "{sum}");
+    let _ = out.write_all(lent);
 }
 
 // Lends so much room, as far as there is.
 fn with_room(out: Stdout, room: usize, what: u8, times: u16, look: usize, bytes: &[u8]) {
     let mut lent = [0u8; LENT];
-    let room = least(room, LENT);
-    show(out, what, times, look, bytes, &mut lent[..room]);
+    show(out, what, times, look, bytes, &mut lent[..room.min(LENT)]);
 }
 
 fn main(rt: HostRuntime) {
@@ -164,13 +127,13 @@ fn main(rt: HostRuntime) {
     read_full(&mut rt.stdin(), &mut first);
     let n = read_full(&mut rt.stdin(), &mut input);
     let times = word_at(&first, TIMES);
-    let room = word_at(&first, ROOM) as usize;
+    let room = usize::from(word_at(&first, ROOM));
     with_room(
         rt.stdout(),
         room,
         first[CALLED],
         times,
-        wide(first[LOOK]),
+        usize::from(first[LOOK]),
         &input[..n],
     );
 }

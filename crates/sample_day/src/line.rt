@@ -1,5 +1,5 @@
 // What a port's line carried that day.
-use answers::{Refusal, Written};
+use answers::{Refusal, written_length};
 use test_parts::{COMLYNX, DRIVES, EVERSOLAR, FRONIUS, byte_at, further, part, size_at, word_at};
 
 // Where a record of the day has what it says. First is its port. The writer is a family by its port, or 0 where nobody sent the bytes. The
@@ -30,17 +30,15 @@ const UNCHANGED: usize = 255;
 const RECORDS: usize = 400;
 
 // Copies the bytes that nobody sent.
-fn noise(payload: &[u8], room: &mut [u8]) -> Written {
-    if room.len() < payload.len() {
-        return Written::Refused(Refusal::NoRoom);
-    }
+fn noise(payload: &[u8], room: &mut [u8]) -> Result<usize, Refusal> {
     let n = payload.len();
-    room[..n].copy_from_slice(payload);
-    Written::Done(n)
+    let front = room.get_mut(..n).ok_or(Refusal::NoRoom)?;
+    front.copy_from_slice(payload);
+    Ok(n)
 }
 
 // Writes the message of a record by the writer of a family, or the bytes that nobody sent.
-fn write(who: u8, header: &[u8], payload: &[u8], room: &mut [u8]) -> Written {
+fn write(who: u8, header: &[u8], payload: &[u8], room: &mut [u8]) -> Result<usize, Refusal> {
     match who {
         COMLYNX => comlynx::write(
             word_at(header, 0),
@@ -80,8 +78,8 @@ fn write(who: u8, header: &[u8], payload: &[u8], room: &mut [u8]) -> Written {
 
 // Changes a byte, where there is one at the index.
 fn change(line: &mut [u8], at: usize, to: u8) {
-    if at < line.len() {
-        line[at] = to;
+    if let Some(byte) = line.get_mut(at) {
+        *byte = to;
     }
 }
 
@@ -99,13 +97,13 @@ fn put(line: &mut [u8], at: usize, record: &[u8]) -> usize {
     if line.len() < at {
         return at;
     }
-    let w = write(
+    let written = write(
         byte_at(record, WRITER),
         part(record, HEADER, HEADER_SIZE),
         part(record, PAYLOAD, PAYLOAD_MAX),
         &mut line[at..],
     );
-    let n = w.length();
+    let n = written_length(written);
     damage(line, at, record);
     further(at, n)
 }
@@ -120,14 +118,12 @@ fn put_for(port: u8, line: &mut [u8], at: usize, record: &[u8]) -> usize {
 
 // Puts what a port carried that day on its line. Answers how many bytes there are.
 pub(crate) fn fill(line: &mut [u8], day: &[u8], port: u8) -> usize {
-    let mut at: usize = 0;
-    let mut next: usize = 0;
-    let mut records: usize = 0;
-    while records < RECORDS {
+    let mut at = 0;
+    let mut next = 0;
+    for _ in 0..RECORDS {
         let size = further(PAYLOAD, size_at(day, further(next, SIZE)));
         at = put_for(port, line, at, part(day, next, size));
         next = further(next, size);
-        records += 1;
     }
     at
 }

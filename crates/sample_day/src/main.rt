@@ -3,6 +3,7 @@
 // packet writer; then some bytes are changed, as a bad line changes them, so that each damage number comes up.
 #![tactic(auto)]
 
+use answers::written_length;
 use input::read_full;
 use line::fill;
 use std::io::Stdout;
@@ -28,24 +29,22 @@ const LINE: usize = 4096;
 fn send_next(out: Stdout, port: u8, round: usize, line: &[u8], from: usize) -> usize {
     let mut packet = [0u8; PACKET];
     let piece = part(line, from, CUTS[round % CUTS.len()]);
-    let n = uplink::write(port, piece, &mut packet).length();
+    let n = written_length(uplink::write(port, piece, &mut packet));
     let _ = out.write_all(part(&packet, 0, n));
     further(from, piece.len())
 }
 
 // The ports take turns, each with cuts of its own.
 fn send_all(out: Stdout, one: &[u8], two: &[u8], three: &[u8], four: &[u8]) {
-    let mut a: usize = 0;
-    let mut b: usize = 0;
-    let mut c: usize = 0;
-    let mut d: usize = 0;
-    let mut round: usize = 0;
-    while round < ROUNDS {
+    let mut a = 0;
+    let mut b = 0;
+    let mut c = 0;
+    let mut d = 0;
+    for round in 0..ROUNDS {
         a = send_next(out, COMLYNX, round, one, a);
         b = send_next(out, EVERSOLAR, round + 2, two, b);
         c = send_next(out, FRONIUS, round + 3, three, c);
         d = send_next(out, DRIVES, round + 1, four, d);
-        round += 1;
     }
 }
 

@@ -8,19 +8,16 @@
 mod families;
 mod input;
 mod lines;
-mod of_comlynx;
-mod of_drives;
-mod of_eversolar;
-mod of_fronius;
 mod slices;
+mod streams;
 mod window;
 
-use families::stream;
+use families::Family;
 use input::read_full;
-use numbers::{least, wide};
 use slices::day_by_slices;
 use std::io::{Stdin, Stdout};
-use test_parts::LARGE;
+use streams::stream;
+use test_parts::{COMLYNX, DRIVES, EVERSOLAR, FRONIUS, LARGE};
 use window::before_the_day;
 
 // Where the input has the family and the way. The day stands behind them.
@@ -37,32 +34,23 @@ const LENT: usize = 256;
 const SLICES: usize = 0;
 
 // The whole day by the streaming reader. A piece is as long as the buffer that it is handed.
-fn day_by_pieces(
+fn day_by_pieces<F: Family>(
     stdin: Stdin,
     out: Stdout,
-    family: u8,
     len: usize,
     buffer: &mut [u8],
     lent: &mut [u8],
 ) {
-    let n = least(len, buffer.len());
-    stream(
-        stdin,
-        out,
-        family,
-        &mut buffer[..n],
-        before_the_day(),
-        false,
-        lent,
-    );
+    let n = len.min(buffer.len());
+    stream::<F>(stdin, out, &mut buffer[..n], before_the_day(), false, lent);
 }
 
-fn day(stdin: Stdin, out: Stdout, family: u8, way: usize, buffer: &mut [u8], lent: &mut [u8]) {
+fn day<F: Family>(stdin: Stdin, out: Stdout, way: usize, buffer: &mut [u8], lent: &mut [u8]) {
     if way == SLICES {
-        day_by_slices(stdin, out, family, buffer, lent);
-        return;
+        day_by_slices::<F>(stdin, out, buffer, lent);
+    } else {
+        day_by_pieces::<F>(stdin, out, way, buffer, lent);
     }
-    day_by_pieces(stdin, out, family, way, buffer, lent);
 }
 
 fn main(rt: HostRuntime) {
@@ -70,12 +58,14 @@ fn main(rt: HostRuntime) {
     let mut lent = [0u8; LENT];
     let mut first = [0u8; DAY];
     read_full(&mut rt.stdin(), &mut first);
-    day(
-        rt.stdin(),
-        rt.stdout(),
-        first[FAMILY],
-        wide(first[WAY]),
-        &mut buffer,
-        &mut lent,
-    );
+    let way = usize::from(first[WAY]);
+    let stdin = rt.stdin();
+    let out = rt.stdout();
+    match first[FAMILY] {
+        COMLYNX => day::<comlynx::Reader>(stdin, out, way, &mut buffer, &mut lent),
+        EVERSOLAR => day::<eversolar::Reader>(stdin, out, way, &mut buffer, &mut lent),
+        FRONIUS => day::<fronius::Reader>(stdin, out, way, &mut buffer, &mut lent),
+        DRIVES => day::<drives::Reader>(stdin, out, way, &mut buffer, &mut lent),
+        _ => {}
+    }
 }

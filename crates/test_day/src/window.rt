@@ -1,12 +1,9 @@
 // What is at hand of the day: its bytes are at the front of a buffer, which is the slice that is asked.
-ghost use Rattle.std.specs.Prelude.{◌≤◌, length};
-
 use crate::input::read_full;
-use numbers::least;
 use std::io::Stdin;
 use test_parts::{further, part};
 
-// What is counted down by a loop over the day, which only shows that it ends: no day has so many slices or pieces.
+// How many turns a loop over the day takes at most, which only shows that it ends: no day has so many slices or pieces.
 pub(crate) const TURNS: u64 = u64::MAX;
 
 #[derive(Clone, Copy)]
@@ -31,24 +28,9 @@ pub(crate) fn before_the_day() -> Window {
     }
 }
 
-// After the last one: nothing is to be asked any more.
-pub(crate) fn after_the_day() -> Window {
-    Window {
-        day: 0,
-        len: 0,
-        place: 0,
-        ended: true,
-    }
-}
-
 // The same bytes, asked from another place.
 pub(crate) fn asked_from(w: Window, place: usize) -> Window {
-    Window {
-        day: w.day,
-        len: w.len,
-        place,
-        ended: w.ended,
-    }
+    Window { place, ..w }
 }
 
 // What is at hand from the place on.
@@ -67,27 +49,15 @@ pub(crate) fn place_in_day(w: Window) -> usize {
     further(w.day, w.place)
 }
 
-// Moves a part of the buffer to its front.
-fn move_front(buffer: &mut [u8], from: usize, to: usize)
-    requires { (from ≤ to) × (to ≤ length buffer.old) }
-{
-    let n = to - from;
-    let mut i: usize = 0;
-    while i < n {
-        buffer[i] = buffer[from + i];
-        i += 1;
-    }
-}
-
 // The next slice: what stands behind the last answer is moved to the buffer's front, and the buffer is filled up. Of the bytes before that place so many
 // are kept as count for the next answer, and the slice is asked from behind them. A buffer that is not full is the day's end, since a read stops short
 // of its buffer only there.
 pub(crate) fn next_slice(mut stdin: Stdin, buffer: &mut [u8], w: Window, back: usize) -> Window {
-    let to = least(w.len, buffer.len());
-    let place = least(w.place, to);
-    let kept = least(back, place);
+    let to = w.len.min(buffer.len());
+    let place = w.place.min(to);
+    let kept = back.min(place);
     let from = place - kept;
-    move_front(buffer, from, to);
+    buffer.copy_within(from..to, 0);
     let n = to - from;
     let len = n + read_full(&mut stdin, &mut buffer[n..]);
     Window {

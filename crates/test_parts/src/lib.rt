@@ -4,8 +4,6 @@
 
 ghost use Rattle.test_parts.specs.Parts.{IsFurther, IsByteAt, IsWordAt, IsPart, IsLowOf, IsHighOf};
 
-use numbers::{wide, word};
-
 // How long a buffer is that holds the input of most programs here.
 pub const LARGE: usize = 65536;
 
@@ -22,40 +20,30 @@ pub const DRIVES: u8 = 4;
 pub fn further(at: usize, n: usize) -> usize
     ensures { IsFurther at n result }
 {
-    if usize::MAX - at < n {
-        usize::MAX
-    } else {
-        at + n
-    }
+    at.saturating_add(n)
 }
 
 // The byte at an index.
 pub fn byte_at(s: &[u8], at: usize) -> u8
     ensures { IsByteAt s.now at result }
 {
-    if at < s.len() { s[at] } else { 0 }
+    s.get(at).copied().unwrap_or(0)
 }
 
 // The byte at an index as a length.
 pub fn size_at(s: &[u8], at: usize) -> usize
     ensures { IsByteAt s.now at result }
 {
-    wide(byte_at(s, at))
+    usize::from(byte_at(s, at))
 }
 
 // So many bytes from an index on, or what there is of them.
 pub fn part(s: &[u8], at: usize, n: usize) -> &[u8]
     ensures { IsPart s.now at n result.now }
 {
-    if at <= s.len() {
-        if n <= s.len() - at {
-            &s[at..at + n]
-        } else {
-            &s[at..]
-        }
-    } else {
-        &s[..0]
-    }
+    let from = at.min(s.len());
+    let to = further(from, n).min(s.len());
+    &s[from..to]
 }
 
 // The number of two bytes at an index, high byte first.
@@ -63,19 +51,19 @@ pub fn word_at(s: &[u8], at: usize) -> u16
     ensures { IsWordAt s.now at result }
 {
     let pair = part(s, at, 2);
-    word(byte_at(pair, 0), byte_at(pair, 1))
+    u16::from_be_bytes([byte_at(pair, 0), byte_at(pair, 1)])
 }
 
 // The low byte of a number.
 pub fn low(n: usize) -> u8
     ensures { IsLowOf n result }
 {
-    (n % 256) as u8
+    n.to_le_bytes()[0]
 }
 
 // The byte above the low one.
 pub fn high(n: usize) -> u8
     ensures { IsHighOf n result }
 {
-    (n / 256 % 256) as u8
+    n.to_le_bytes()[1]
 }

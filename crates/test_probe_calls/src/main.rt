@@ -23,11 +23,9 @@ const CALLS_MAX: u32 = 4294967295;
 fn main(rt: HostRuntime) {
     let mut call = [0u8; LARGE];
     let mut lent = [0u8; LARGE];
-    let mut made: u32 = 0;
-    while made < CALLS_MAX {
+    for _ in 0..CALLS_MAX {
         if !next_call(rt.stdin(), rt.stdout(), &mut call, &mut lent) {
             return;
         }
-        made += 1;
     }
 }

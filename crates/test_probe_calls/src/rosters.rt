@@ -2,31 +2,32 @@
 use crate::heads::{HEAD, told};
 use crate::values::refused;
 use crate::wire::{list_at, past_list, put};
-use roster::{Found, Given, PLACE_SIZE, PLACES, Place, ROSTER_SIZE, Removed, SERIAL_SIZE};
+use answers::Refusal;
+use roster::{PLACE_SIZE, PLACES, Place, ROSTER_SIZE, SERIAL_SIZE};
 use test_parts::{byte_at, further, part};
 
 // The answer that a list of another number of places has.
 const SPOILT: u8 = 18;
 
-fn given_head(given: Given) -> [u8; HEAD] {
+fn given_head(given: Result<u8, Refusal>) -> [u8; HEAD] {
     match given {
-        Given::Address(address) => told(0, address as u64),
-        Given::Refused(why) => refused(why),
+        Ok(address) => told(0, u64::from(address)),
+        Err(why) => refused(why),
     }
 }
 
-fn found_head(found: Found) -> [u8; HEAD] {
+fn found_head(found: Result<Option<u8>, Refusal>) -> [u8; HEAD] {
     match found {
-        Found::Address(address) => told(0, address as u64),
-        Found::NoAddress => told(0, 0),
-        Found::Refused(why) => refused(why),
+        Ok(Some(address)) => told(0, u64::from(address)),
+        Ok(None) => told(0, 0),
+        Err(why) => refused(why),
     }
 }
 
-fn removed_head(removed: Removed) -> [u8; HEAD] {
+fn removed_head(removed: Result<(), Refusal>) -> [u8; HEAD] {
     match removed {
-        Removed::Done => told(0, 0),
-        Removed::Refused(why) => refused(why),
+        Ok(()) => told(0, 0),
+        Err(why) => refused(why),
     }
 }
 
@@ -58,10 +59,8 @@ fn places_of(s: &[u8]) -> [Place; PLACES] {
     let serial = [0u8; SERIAL_SIZE];
     let free = Place { mark: 0, serial };
     let mut places = [free; PLACES];
-    let mut i = 0;
-    while i < PLACES {
+    for i in 0..PLACES {
         places[i] = place_of(part(s, PLACE_SIZE * i, PLACE_SIZE));
-        i += 1;
     }
     places
 }
@@ -77,27 +76,21 @@ fn put_place(roster: &mut [u8], at: usize, place: Place) -> usize {
 
 fn put_places(roster: &mut [u8], places: [Place; PLACES]) {
     let mut next = 0;
-    let mut i = 0;
-    while i < PLACES {
-        next = put_place(roster, next, places[i]);
-        i += 1;
+    for place in &places {
+        next = put_place(roster, next, *place);
     }
 }
 
 fn give_held(lent: &mut [u8], serial: &[u8]) -> [u8; HEAD] {
     let held = roster_places::give_held(places_of(lent), serial);
-    let given = held.given;
-    let places = held.places;
-    put_places(lent, places);
-    given_head(given)
+    put_places(lent, held.places);
+    given_head(held.told)
 }
 
 fn remove_held(lent: &mut [u8], address: u8) -> [u8; HEAD] {
     let held = roster_places::remove_held(places_of(lent), address);
-    let removed = held.removed;
-    let places = held.places;
-    put_places(lent, places);
-    removed_head(removed)
+    put_places(lent, held.places);
+    removed_head(held.told)
 }
 
 fn find_held(lent: &[u8], serial: &[u8]) -> [u8; HEAD] {

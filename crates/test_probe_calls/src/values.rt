@@ -2,13 +2,10 @@
 use crate::heads::{HEAD, told};
 use crate::wire::{list_at, past_list, put, quad_at, size_at, word_at};
 use answers::Refusal;
-use comlynx_meaning::{Address, Addressed, Meaning};
+use comlynx_meaning::{Address, Meaning};
 use drives_meaning::Expected;
-use eversolar_meaning::{Energy, Wait};
-use fronius_meaning::measured::Measured;
-use fronius_meaning::reading::{Read, Reading};
+use fronius_meaning::reading::Reading;
 use test_parts::{byte_at, high, low, part};
-use uplink::Received;
 
 // Answer number 0, a kind, and a number low byte first.
 fn kind_told(kind: u8, n: u64) -> [u8; HEAD] {
@@ -28,13 +25,12 @@ pub(crate) fn refused(why: Refusal) -> [u8; HEAD] {
 }
 
 fn meaning(kind: u8, payload: &[u8]) -> [u8; HEAD] {
-    let meaning = comlynx_meaning::meaning_of(kind, payload);
-    match meaning {
-        Meaning::Request(id) => three_told(0, 1, id, 0),
-        Meaning::Reply(id) => three_told(0, 2, id, 0),
-        Meaning::TransmissionError(id, code) => three_told(0, 3, id, code),
-        Meaning::ApplicationError(id, code) => three_told(0, 4, id, code),
-        Meaning::Refused(why) => refused(why),
+    match comlynx_meaning::meaning_of(kind, payload) {
+        Ok(Meaning::Request(id)) => three_told(0, 1, id, 0),
+        Ok(Meaning::Reply(id)) => three_told(0, 2, id, 0),
+        Ok(Meaning::TransmissionError(id, code)) => three_told(0, 3, id, code),
+        Ok(Meaning::ApplicationError(id, code)) => three_told(0, 4, id, code),
+        Err(why) => refused(why),
     }
 }
 
@@ -49,35 +45,31 @@ fn word_of_address(network: u8, subnet: u8, node: u8) -> [u8; HEAD] {
         subnet,
         node,
     };
-    let addressed = comlynx_meaning::word_of(a);
-    match addressed {
-        Addressed::Word(w) => told(0, w as u64),
-        Addressed::Refused(why) => refused(why),
+    match comlynx_meaning::word_of(a) {
+        Ok(w) => told(0, w as u64),
+        Err(why) => refused(why),
     }
 }
 
 fn expected(opening: u8, first: u8, second: u8) -> [u8; HEAD] {
-    let expected = drives_meaning::reply_expected(opening, first, second);
-    match expected {
-        Expected::Reply => told(0, 1),
-        Expected::NoReply => told(0, 0),
-        Expected::Refused(why) => refused(why),
+    match drives_meaning::reply_expected(opening, first, second) {
+        Ok(Expected::Reply) => told(0, 1),
+        Ok(Expected::NoReply) => told(0, 0),
+        Err(why) => refused(why),
     }
 }
 
 fn energy(control: u8, function: u8, payload: &[u8]) -> [u8; HEAD] {
-    let energy = eversolar_meaning::total_energy(control, function, payload);
-    match energy {
-        Energy::Tenths(tenths) => told(0, tenths as u64),
-        Energy::Refused(why) => refused(why),
+    match eversolar_meaning::total_energy(control, function, payload) {
+        Ok(tenths) => told(0, tenths as u64),
+        Err(why) => refused(why),
     }
 }
 
 fn wait(serial: u64, attempt: u8) -> [u8; HEAD] {
-    let wait = eversolar_meaning::wait_of(serial, attempt);
-    match wait {
-        Wait::Intervals(intervals) => told(0, intervals),
-        Wait::Refused(why) => refused(why),
+    match eversolar_meaning::wait_of(serial, attempt) {
+        Ok(intervals) => told(0, intervals),
+        Err(why) => refused(why),
     }
 }
 
@@ -98,10 +90,9 @@ fn complement(x: i64) -> u64 {
 }
 
 fn measured(payload: &[u8], signed: bool) -> [u8; HEAD] {
-    let measured = fronius_meaning::measured::thousandths(payload, signed);
-    match measured {
-        Measured::Thousandths(n) => told(0, complement(n)),
-        Measured::Refused(why) => refused(why),
+    match fronius_meaning::measured::thousandths(payload, signed) {
+        Ok(n) => told(0, complement(n)),
+        Err(why) => refused(why),
     }
 }
 
@@ -142,10 +133,9 @@ fn value_told(reading: Reading) -> [u8; HEAD] {
 }
 
 fn reading(device: u8, command: u8, payload: &[u8]) -> [u8; HEAD] {
-    let read = fronius_meaning::reading::reading_of(device, command, payload);
-    match read {
-        Read::Value(value) => value_told(value),
-        Read::Refused(why) => refused(why),
+    match fronius_meaning::reading::reading_of(device, command, payload) {
+        Ok(value) => value_told(value),
+        Err(why) => refused(why),
     }
 }
 
@@ -173,10 +163,9 @@ fn packet_told(port: u8, count: u8, used: usize) -> [u8; HEAD] {
 }
 
 fn packet(bytes: &[u8]) -> [u8; HEAD] {
-    let received = uplink::read(bytes);
-    match received {
-        Received::Packet { port, count, used } => packet_told(port, count, used),
-        Received::Refused(why) => refused(why),
+    match uplink::read(bytes) {
+        Ok(packet) => packet_told(packet.port, packet.count, packet.used),
+        Err(why) => refused(why),
     }
 }
 

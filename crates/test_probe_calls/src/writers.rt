@@ -1,7 +1,7 @@
 // The writers of the families and of the packet, and the requests of the Eversolar master.
 use crate::heads::{HEAD, told};
 use crate::wire::{past_list, word_at};
-use answers::Written;
+use answers::{Refusal, written_length, written_number};
 use eversolar_requests::{ToAll, ToOne};
 use test_parts::byte_at;
 
@@ -23,7 +23,7 @@ fn to_one(which: u8) -> ToOne {
     }
 }
 
-fn eversolar(s: &[u8], payload: &[u8], lent: &mut [u8]) -> Written {
+fn eversolar(s: &[u8], payload: &[u8], lent: &mut [u8]) -> Result<usize, Refusal> {
     eversolar::write(
         byte_at(s, 1),
         byte_at(s, 2),
@@ -36,7 +36,7 @@ fn eversolar(s: &[u8], payload: &[u8], lent: &mut [u8]) -> Written {
     )
 }
 
-fn drives(s: &[u8], payload: &[u8], lent: &mut [u8]) -> Written {
+fn drives(s: &[u8], payload: &[u8], lent: &mut [u8]) -> Result<usize, Refusal> {
     drives::write(
         byte_at(s, 1),
         byte_at(s, 2),
@@ -47,7 +47,7 @@ fn drives(s: &[u8], payload: &[u8], lent: &mut [u8]) -> Written {
     )
 }
 
-fn frame(op: u8, s: &[u8], payload: &[u8], lent: &mut [u8]) -> Written {
+fn frame(op: u8, s: &[u8], payload: &[u8], lent: &mut [u8]) -> Result<usize, Refusal> {
     match op {
         0x11 => comlynx::write(word_at(s, 1), word_at(s, 3), byte_at(s, 5), payload, lent),
         0x12 => eversolar(s, payload, lent),
@@ -56,7 +56,7 @@ fn frame(op: u8, s: &[u8], payload: &[u8], lent: &mut [u8]) -> Written {
     }
 }
 
-fn request(op: u8, s: &[u8], serial: &[u8], lent: &mut [u8]) -> Written {
+fn request(op: u8, s: &[u8], serial: &[u8], lent: &mut [u8]) -> Result<usize, Refusal> {
     match op {
         0x31 => eversolar_requests::ask_all(to_all(byte_at(s, 1)), lent),
         0x32 => eversolar_requests::ask_one(to_one(byte_at(s, 1)), byte_at(s, 2), lent),
@@ -64,7 +64,7 @@ fn request(op: u8, s: &[u8], serial: &[u8], lent: &mut [u8]) -> Written {
     }
 }
 
-pub(crate) fn write(op: u8, s: &[u8], first: &[u8], lent: &mut [u8]) -> Written {
+pub(crate) fn write(op: u8, s: &[u8], first: &[u8], lent: &mut [u8]) -> Result<usize, Refusal> {
     match op / 16 {
         1 => frame(op, s, first, lent),
         3 => request(op, s, first, lent),
@@ -72,6 +72,6 @@ pub(crate) fn write(op: u8, s: &[u8], first: &[u8], lent: &mut [u8]) -> Written 
     }
 }
 
-pub(crate) fn written(w: Written) -> [u8; HEAD] {
-    told(w.number(), w.length() as u64)
+pub(crate) fn written(w: Result<usize, Refusal>) -> [u8; HEAD] {
+    told(written_number(w), written_length(w) as u64)
 }

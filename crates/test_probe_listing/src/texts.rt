@@ -1,12 +1,12 @@
 // The lines of a listing.
 use crate::heads::{say_head, told};
 use crate::wire::{list_at, quad_at, word_at};
-use answers::Written;
+use answers::{Refusal, written_length, written_number};
 use std::io::Stdout;
 use test_parts::byte_at;
 
 // The line of a message whose from, to and code have 2, 2 and 1 bytes.
-fn of_2_2_1(s: &[u8], lent: &mut [u8]) -> Written {
+fn of_2_2_1(s: &[u8], lent: &mut [u8]) -> Result<usize, Refusal> {
     listing_text::message_2_2_1(
         byte_at(s, 1),
         byte_at(s, 2),
@@ -20,7 +20,7 @@ fn of_2_2_1(s: &[u8], lent: &mut [u8]) -> Written {
 }
 
 // 2, 2 and 2 bytes.
-fn of_2_2_2(s: &[u8], lent: &mut [u8]) -> Written {
+fn of_2_2_2(s: &[u8], lent: &mut [u8]) -> Result<usize, Refusal> {
     listing_text::message_2_2_2(
         byte_at(s, 1),
         byte_at(s, 2),
@@ -35,7 +35,7 @@ fn of_2_2_2(s: &[u8], lent: &mut [u8]) -> Written {
 }
 
 // None, 2 and 1.
-fn of_0_2_1(s: &[u8], lent: &mut [u8]) -> Written {
+fn of_0_2_1(s: &[u8], lent: &mut [u8]) -> Result<usize, Refusal> {
     listing_text::message_0_2_1(
         byte_at(s, 1),
         byte_at(s, 2),
@@ -47,7 +47,7 @@ fn of_0_2_1(s: &[u8], lent: &mut [u8]) -> Written {
 }
 
 // 1, 2 and 1.
-fn of_1_2_1(s: &[u8], lent: &mut [u8]) -> Written {
+fn of_1_2_1(s: &[u8], lent: &mut [u8]) -> Result<usize, Refusal> {
     listing_text::message_1_2_1(
         byte_at(s, 1),
         byte_at(s, 2),
@@ -59,7 +59,7 @@ fn of_1_2_1(s: &[u8], lent: &mut [u8]) -> Written {
     )
 }
 
-fn message(op: u8, s: &[u8], lent: &mut [u8]) -> Written {
+fn message(op: u8, s: &[u8], lent: &mut [u8]) -> Result<usize, Refusal> {
     match op {
         0x8a => of_2_2_1(s, lent),
         0x8b => of_2_2_2(s, lent),
@@ -68,7 +68,7 @@ fn message(op: u8, s: &[u8], lent: &mut [u8]) -> Written {
     }
 }
 
-fn write(op: u8, s: &[u8], lent: &mut [u8]) -> Written {
+fn write(op: u8, s: &[u8], lent: &mut [u8]) -> Result<usize, Refusal> {
     match op {
         0x81 => listing_text::title(lent),
         0x83 => listing_text::damage(byte_at(s, 1), byte_at(s, 2), word_at(s, 3), lent),
@@ -80,5 +80,6 @@ fn write(op: u8, s: &[u8], lent: &mut [u8]) -> Written {
 
 pub(crate) fn say_line(out: Stdout, op: u8, s: &[u8], lent: &mut [u8], head: usize) {
     let written = write(op, s, lent);
-    say_head(out, told(written.number(), written.length() as u64), head);
+    let length = written_length(written);
+    say_head(out, told(written_number(written), length as u64), head);
 }

@@ -7,12 +7,12 @@ pub(crate) const FIELDS: usize = 8;
 #[derive(Drop)]
 pub(crate) struct Told {
     pub(crate) number: u8,
-    pub(crate) lost: usize,
+    pub(crate) lost: u16,
     pub(crate) fields: [u8; FIELDS],
 }
 
 // An answer without a message.
-fn no_message(number: u8, lost: usize) -> Told {
+fn no_message(number: u8, lost: u16) -> Told {
     Told {
         number,
         lost,
@@ -29,13 +29,13 @@ fn message(fields: [u8; FIELDS]) -> Told {
 }
 
 fn comlynx_fields(h: comlynx::Header) -> [u8; FIELDS] {
-    let source = h.source as usize;
-    let destination = h.destination as usize;
+    let [source_low, source_high] = h.source.to_le_bytes();
+    let [destination_low, destination_high] = h.destination.to_le_bytes();
     [
-        low(source),
-        high(source),
-        low(destination),
-        high(destination),
+        source_low,
+        source_high,
+        destination_low,
+        destination_high,
         h.kind,
         low(h.len),
         high(h.len),
@@ -47,7 +47,7 @@ pub(crate) fn comlynx(answer: comlynx::Answer) -> Told {
     match answer {
         comlynx::Answer::Done => no_message(0, 0),
         comlynx::Answer::Message(h) => message(comlynx_fields(h)),
-        comlynx::Answer::Damaged { what, lost } => no_message(what.number(), lost as usize),
+        comlynx::Answer::Damaged { what, lost } => no_message(what.number(), lost),
         comlynx::Answer::Refused(why) => no_message(why.number(), 0),
     }
 }
@@ -69,7 +69,7 @@ pub(crate) fn eversolar(answer: eversolar::Answer) -> Told {
     match answer {
         eversolar::Answer::Done => no_message(0, 0),
         eversolar::Answer::Message(h) => message(eversolar_fields(h)),
-        eversolar::Answer::Damaged { what, lost } => no_message(what.number(), lost as usize),
+        eversolar::Answer::Damaged { what, lost } => no_message(what.number(), lost),
         eversolar::Answer::Refused(why) => no_message(why.number(), 0),
     }
 }
@@ -91,7 +91,7 @@ pub(crate) fn fronius(answer: fronius::Answer) -> Told {
     match answer {
         fronius::Answer::Done => no_message(0, 0),
         fronius::Answer::Message(h) => message(fronius_fields(h)),
-        fronius::Answer::Damaged { what, lost } => no_message(what.number(), lost as usize),
+        fronius::Answer::Damaged { what, lost } => no_message(what.number(), lost),
         fronius::Answer::Refused(why) => no_message(why.number(), 0),
     }
 }
@@ -113,7 +113,7 @@ pub(crate) fn drives(answer: drives::Answer) -> Told {
     match answer {
         drives::Answer::Done => no_message(0, 0),
         drives::Answer::Message(h) => message(drives_fields(h)),
-        drives::Answer::Damaged { what, lost } => no_message(what.number(), lost as usize),
+        drives::Answer::Damaged { what, lost } => no_message(what.number(), lost),
         drives::Answer::Refused(why) => no_message(why.number(), 0),
     }
 }

@@ -6,14 +6,8 @@ use crate::wire::{WORD, say, say_list, say_size};
 use std::io::Stdout;
 use test_parts::{further, part};
 
-// How many bytes of fields a family's message has.
+// How many bytes of fields a message of ComLynx has, of a stretch too.
 const COMLYNX_FIELDS: usize = 7;
-
-const EVERSOLAR_FIELDS: usize = 8;
-
-const FRONIUS_FIELDS: usize = 5;
-
-const DRIVES_FIELDS: usize = 6;
 
 // Number, place and lost bytes stand before the fields; of a stretch no place does.
 const FRONT: usize = 7;
@@ -36,76 +30,98 @@ fn say_place(out: Stdout, place: usize) {
     say_size(out, place / 65536 % 65536);
 }
 
-// Puts out what an ask told: its place too, and as many bytes of fields as the family has.
-fn say_asked(out: Stdout, told: Told, place: usize, count: usize, lent: &[u8]) {
+// What a family's reader of slices answers: a place, and what is told.
+#[derive(Drop)]
+pub(crate) struct Asked {
+    place: usize,
+    told: Told,
+}
+
+// A family, by its reader of slices and how many bytes of fields its message has.
+pub(crate) trait Family {
+    const FIELDS: usize;
+
+    fn ask(slice: &[u8], place: usize, lent: &mut [u8]) -> Asked;
+}
+
+pub(crate) struct ComLynx;
+
+impl Family for ComLynx {
+    const FIELDS: usize = COMLYNX_FIELDS;
+
+    fn ask(slice: &[u8], place: usize, lent: &mut [u8]) -> Asked {
+        let found = comlynx::answer_at(slice, place, lent);
+        Asked {
+            place: found.place,
+            told: answers_told::comlynx(found.answer),
+        }
+    }
+}
+
+pub(crate) struct Eversolar;
+
+impl Family for Eversolar {
+    const FIELDS: usize = 8;
+
+    fn ask(slice: &[u8], place: usize, lent: &mut [u8]) -> Asked {
+        let found = eversolar::answer_at(slice, place, lent);
+        Asked {
+            place: found.place,
+            told: answers_told::eversolar(found.answer),
+        }
+    }
+}
+
+pub(crate) struct Fronius;
+
+impl Family for Fronius {
+    const FIELDS: usize = 5;
+
+    fn ask(slice: &[u8], place: usize, lent: &mut [u8]) -> Asked {
+        let found = fronius::answer_at(slice, place, lent);
+        Asked {
+            place: found.place,
+            told: answers_told::fronius(found.answer),
+        }
+    }
+}
+
+pub(crate) struct Drives;
+
+impl Family for Drives {
+    const FIELDS: usize = 6;
+
+    fn ask(slice: &[u8], place: usize, lent: &mut [u8]) -> Asked {
+        let found = drives::answer_at(slice, place, lent);
+        Asked {
+            place: found.place,
+            told: answers_told::drives(found.answer),
+        }
+    }
+}
+
+// Asks, and puts out what is told: its place too, and as many bytes of fields as the family has.
+pub(crate) fn say_asked<F: Family>(out: Stdout, slice: &[u8], place: usize, lent: &mut [u8]) {
+    let asked = F::ask(slice, place, lent);
+    let told = asked.told;
     let fields = told.fields;
-    say_length(out, further(FRONT, count), lent);
+    say_length(out, further(FRONT, F::FIELDS), lent);
     say_number(out, told.number);
-    say_place(out, place);
-    say_size(out, told.lost);
-    say(out, part(&fields, 0, count));
+    say_place(out, asked.place);
+    say_size(out, usize::from(told.lost));
+    say(out, part(&fields, 0, F::FIELDS));
     say_list(out, lent);
-}
-
-pub(crate) fn comlynx_asked(out: Stdout, slice: &[u8], place: usize, lent: &mut [u8]) {
-    let found = comlynx::answer_at(slice, place, lent);
-    let answer = found.answer;
-    say_asked(
-        out,
-        answers_told::comlynx(answer),
-        found.place,
-        COMLYNX_FIELDS,
-        &*lent,
-    );
-}
-
-pub(crate) fn eversolar_asked(out: Stdout, slice: &[u8], place: usize, lent: &mut [u8]) {
-    let found = eversolar::answer_at(slice, place, lent);
-    let answer = found.answer;
-    say_asked(
-        out,
-        answers_told::eversolar(answer),
-        found.place,
-        EVERSOLAR_FIELDS,
-        &*lent,
-    );
-}
-
-pub(crate) fn fronius_asked(out: Stdout, slice: &[u8], place: usize, lent: &mut [u8]) {
-    let found = fronius::answer_at(slice, place, lent);
-    let answer = found.answer;
-    say_asked(
-        out,
-        answers_told::fronius(answer),
-        found.place,
-        FRONIUS_FIELDS,
-        &*lent,
-    );
-}
-
-pub(crate) fn drives_asked(out: Stdout, slice: &[u8], place: usize, lent: &mut [u8]) {
-    let found = drives::answer_at(slice, place, lent);
-    let answer = found.answer;
-    say_asked(
-        out,
-        answers_told::drives(answer),
-        found.place,
-        DRIVES_FIELDS,
-        &*lent,
-    );
 }
 
 // The whole slice as one stretch.
 pub(crate) fn stretch_judged(out: Stdout, slice: &[u8], lent: &mut [u8]) {
-    let answer = comlynx::judge_stretch(slice, lent);
-    let told = answers_told::comlynx(answer);
+    let told = answers_told::comlynx(comlynx::judge_stretch(slice, lent));
     let fields = told.fields;
-    let seen = &*lent;
-    say_length(out, further(FRONT_OF_STRETCH, COMLYNX_FIELDS), seen);
+    say_length(out, further(FRONT_OF_STRETCH, COMLYNX_FIELDS), lent);
     say_number(out, told.number);
-    say_size(out, told.lost);
+    say_size(out, usize::from(told.lost));
     say(out, part(&fields, 0, COMLYNX_FIELDS));
-    say_list(out, seen);
+    say_list(out, lent);
 }
 
 // The result of setting a slice: a length of 1, and the number 0.

@@ -1,10 +1,10 @@
 // Reading a call, and who makes it.
 use crate::asks;
+use crate::asks::{ComLynx, Drives, Eversolar, Fronius};
 use crate::input::read_full;
-use crate::wire::{FAR, QUAD, WORD, list_size, quad_at, word_at};
-use numbers::least;
+use crate::wire::{WORD, list_size};
 use std::io::{Stdin, Stdout};
-use test_parts::{byte_at, part};
+use test_parts::part;
 
 // The calls, by their opcodes.
 const SET: u8 = 0x91;
@@ -19,77 +19,43 @@ const DRIVES: u8 = 0x95;
 
 const STRETCH: u8 = 0x96;
 
-// Whether no call was made, and otherwise how many bytes the slice has after it.
-#[derive(Drop)]
-pub(crate) struct Next {
-    pub(crate) ended: bool,
-    pub(crate) size: usize,
+// So many bytes of the input, if there are as many.
+fn read_bytes<const N: usize>(mut stdin: Stdin) -> Option<[u8; N]> {
+    let mut bytes = [0u8; N];
+    let n = read_full(&mut stdin, &mut bytes);
+    if n == N { Some(bytes) } else { None }
 }
 
-fn ended() -> Next {
-    Next {
-        ended: true,
-        size: 0,
+// Fills the front of a buffer from the input, so many bytes of it. Answers them, if the buffer has and the input brings as many.
+fn read_front(mut stdin: Stdin, s: &mut [u8], n: usize) -> Option<&mut [u8]> {
+    let front = s.get_mut(..n)?;
+    if read_full(&mut stdin, front) < n {
+        return None;
     }
-}
-
-fn goes_on(size: usize) -> Next {
-    Next { ended: false, size }
-}
-
-// Fills a buffer from the input. Tells whether there were so many bytes.
-fn read_all(mut stdin: Stdin, s: &mut [u8]) -> bool {
-    let n = read_full(&mut stdin, s);
-    n == s.len()
-}
-
-// Fills the front of a buffer, so many bytes of it. There is no such front where they are more than it has.
-fn read_front(stdin: Stdin, s: &mut [u8], n: usize) -> bool {
-    if s.len() < n {
-        return false;
-    }
-    read_all(stdin, &mut s[0..n])
-}
-
-// A number of four bytes, by its two words.
-fn double(first: u16, second: u16) -> usize {
-    first as usize + 65536 * (second as usize)
+    Some(front)
 }
 
 // Sets the slice: its length, four bytes, then its bytes.
-fn set(stdin: Stdin, out: Stdout, slice: &mut [u8]) -> Next {
-    let mut length = [0u8; 4];
-    if !read_all(stdin, &mut length) {
-        return ended();
-    }
-    let n = double(word_at(&length, 0), word_at(&length, WORD));
-    if !read_front(stdin, slice, n) {
-        return ended();
-    }
+fn set(stdin: Stdin, out: Stdout, slice: &mut [u8]) -> Option<usize> {
+    let length = u32::from_le_bytes(read_bytes(stdin)?);
+    let n = read_front(stdin, slice, length as usize)?.len();
     asks::say_set(out);
-    goes_on(n)
+    Some(n)
 }
 
-// Reads the list that is lent to the front of a buffer. Answers its length, far more than there may be where it is not whole.
-fn read_lent(stdin: Stdin, lent: &mut [u8]) -> usize {
-    let mut length = [0u8; WORD];
-    if !read_all(stdin, &mut length) {
-        return FAR;
-    }
-    let n = list_size(&length, 0);
-    if !read_front(stdin, lent, n) {
-        return FAR;
-    }
-    n
+// Reads the list that is lent to the front of a buffer.
+fn read_lent(stdin: Stdin, lent: &mut [u8]) -> Option<&mut [u8]> {
+    let length: [u8; WORD] = read_bytes(stdin)?;
+    read_front(stdin, lent, list_size(&length, 0))
 }
 
 // Makes a call over what is lent.
 fn make(out: Stdout, op: u8, slice: &[u8], place: usize, lent: &mut [u8]) {
     match op {
-        COMLYNX => asks::comlynx_asked(out, slice, place, lent),
-        EVERSOLAR => asks::eversolar_asked(out, slice, place, lent),
-        FRONIUS => asks::fronius_asked(out, slice, place, lent),
-        DRIVES => asks::drives_asked(out, slice, place, lent),
+        COMLYNX => asks::say_asked::<ComLynx>(out, slice, place, lent),
+        EVERSOLAR => asks::say_asked::<Eversolar>(out, slice, place, lent),
+        FRONIUS => asks::say_asked::<Fronius>(out, slice, place, lent),
+        DRIVES => asks::say_asked::<Drives>(out, slice, place, lent),
         _ => asks::stretch_judged(out, slice, lent),
     }
 }
@@ -100,57 +66,36 @@ fn call(
     out: Stdout,
     op: u8,
     slice: &[u8],
-    size: usize,
     place: usize,
     lent: &mut [u8],
-) -> Next {
-    let n = read_lent(stdin, lent);
-    if n == FAR {
-        return ended();
-    }
-    let to = least(n, lent.len());
-    make(out, op, part(slice, 0, size), place, &mut lent[0..to]);
-    goes_on(size)
+) -> Option<()> {
+    let lent = read_lent(stdin, lent)?;
+    make(out, op, slice, place, lent);
+    Some(())
 }
 
 // The same of a call that asks from a place, which stands before what is lent.
-fn ask(stdin: Stdin, out: Stdout, op: u8, slice: &[u8], size: usize, lent: &mut [u8]) -> Next {
-    let mut place = [0u8; QUAD];
-    if !read_all(stdin, &mut place) {
-        return ended();
-    }
-    call(
-        stdin,
-        out,
-        op,
-        slice,
-        size,
-        quad_at(&place, 0) as usize,
-        lent,
-    )
+fn ask(stdin: Stdin, out: Stdout, op: u8, slice: &[u8], lent: &mut [u8]) -> Option<()> {
+    let place = u64::from_le_bytes(read_bytes(stdin)?);
+    call(stdin, out, op, slice, place as usize, lent)
 }
 
-// Reads the next call and makes it.
+// Reads the next call and makes it. Answers how many bytes the slice has after it, if there was a whole call.
 pub(crate) fn next_call(
     stdin: Stdin,
     out: Stdout,
     slice: &mut [u8],
     size: usize,
     lent: &mut [u8],
-) -> Next {
-    let mut first = [0u8; 1];
-    if !read_all(stdin, &mut first) {
-        return ended();
+) -> Option<usize> {
+    let [op] = read_bytes::<1>(stdin)?;
+    match op {
+        SET => return set(stdin, out, slice),
+        STRETCH => call(stdin, out, op, part(slice, 0, size), 0, lent)?,
+        COMLYNX | EVERSOLAR | FRONIUS | DRIVES => {
+            ask(stdin, out, op, part(slice, 0, size), lent)?
+        }
+        _ => return None,
     }
-    let op = byte_at(&first, 0);
-    if op == SET {
-        return set(stdin, out, slice);
-    }
-    if op == STRETCH {
-        return call(stdin, out, op, &*slice, size, 0, lent);
-    }
-    if (COMLYNX <= op) & (op <= DRIVES) {
-        return ask(stdin, out, op, &*slice, size, lent);
-    }
-    ended()
+    Some(size)
 }

@@ -22,14 +22,11 @@ const SLICE: usize = 65537;
 fn main(rt: HostRuntime) {
     let mut slice = [0u8; SLICE];
     let mut lent = [0u8; LARGE];
-    let mut size: usize = 0;
-    let mut made: u32 = 0;
-    while made < CALLS_MAX {
-        let next = next_call(rt.stdin(), rt.stdout(), &mut slice, size, &mut lent);
-        if next.ended {
-            return;
+    let mut size = 0;
+    for _ in 0..CALLS_MAX {
+        match next_call(rt.stdin(), rt.stdout(), &mut slice, size, &mut lent) {
+            Some(next) => size = next,
+            None => return,
         }
-        size = next.size;
-        made += 1;
     }
 }

@@ -5,6 +5,7 @@
 mod families;
 mod input;
 
+use answers::written_length;
 use families::{MESSAGE, READ, read, write};
 use input::read_full;
 use std::io::Stdout;
@@ -84,27 +85,21 @@ fn print_number(out: Stdout, n: u8) {
     print(out, b" ");
 }
 
-fn print_hex(out: Stdout, b: u8) {
-    let _ = print!(out; "{b:02x}");
-}
-
 // Bytes in hex.
 fn print_bytes(out: Stdout, s: &[u8]) {
-    let mut i = 0;
-    while i < s.len() {
-        print_hex(out, s[i]);
-        i += 1;
+    for b in s {
+        let _ = print!(out; "{b:02x}");
     }
     print(out, b" ");
 }
 
 // A payload in hex, `-` where it is empty.
 fn print_payload(out: Stdout, s: &[u8]) {
-    if s.len() == 0 {
+    if s.is_empty() {
         print(out, b"- ");
-        return;
+    } else {
+        print_bytes(out, s);
     }
-    print_bytes(out, s);
 }
 
 // From, to, code and payload of a message; of anything else how many bytes were lost.
@@ -125,15 +120,12 @@ fn agrees(reads: bool, writes: bool, answer: u8) -> bool {
 }
 
 fn print_verdict(out: Stdout, agrees: bool, answer: u8) {
-    if !agrees {
-        print(out, b"differs\n");
-        return;
-    }
-    if answer == MESSAGE {
-        print(out, b"ok\n");
-        return;
-    }
-    print(out, b"damaged\n");
+    let verdict = match (agrees, answer) {
+        (false, _) => b"differs\n".as_slice(),
+        (true, MESSAGE) => b"ok\n".as_slice(),
+        (true, _) => b"damaged\n".as_slice(),
+    };
+    print(out, verdict);
 }
 
 // The line of a record, of which `got` was read, its payload in `lent`, and `again` was written.
@@ -176,16 +168,14 @@ fn try_record(out: Stdout, record: &[u8]) {
         payload_of(record),
         &mut again,
     );
-    let n = written.length();
+    let n = written_length(written);
     report(out, record, &got, &lent, part(&again, 0, n));
 }
 
 fn main(rt: HostRuntime) {
     let mut input = [0u8; LARGE];
     read_full(&mut rt.stdin(), &mut input);
-    let mut i = 0;
-    while i < RECORDS {
-        try_record(rt.stdout(), part(&input, RECORD * i, RECORD));
-        i += 1;
+    for record in input.chunks(RECORD).take(RECORDS) {
+        try_record(rt.stdout(), record);
     }
 }

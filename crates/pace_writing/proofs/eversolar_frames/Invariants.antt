@@ -1,9 +1,0 @@
--- `eversolar_frames`: so many calls, and no more.
-use Rattle.std.proofs.Common.{◌-◌, ◌≤◌, ◌≡◌, length}
-use Rattle.pace_writing.proofs.eversolar_frames.Given as goal
-
-abbrev pub invariant-loop-n : goal.invariant-loop-n
-invariant-loop-n l = (l.n ≤ l.times) × (length l.lent ≡ length l.initial.lent)
-
-abbrev pub decreases-loop-n : goal.decreases-loop-n
-decreases-loop-n l = l.times - l.n
