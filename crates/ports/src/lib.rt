@@ -1,11 +1,10 @@
 // The readers of all ports side by side, one a port. A call goes to the reader of its port and leaves the others as they are.
 //
 // `Ports::step` is for hosts that hold all readers by value and are handed a port and a piece, as `test_published` and `test_probe_listing` do here.
-// Such a call copies all four readers, some 770 bytes. So `listing`, which calls often, chooses the port itself: it takes the reader out once
-// a packet, calls that reader alone, and puts it back.
+// Such a call copies all four readers, some 770 bytes. So `listing`, which calls often, chooses the port itself and lends the reader where it stands:
+// it goes by `step_in_place`, which copies no held byte.
 //
-// `Ports::step` goes by each reader's `step`. With `step_in_place` it would copy the held bytes itself: the prover does not cover that an array is
-// lent as a slice from inside a struct.
+// `Ports::step` goes by each reader's `step`, which takes the reader by value as `Ports::step` itself does.
 #![tactic(auto)]
 
 ghost use Rattle.std.specs.Prelude.{◌≡◌};
