@@ -27,6 +27,7 @@ pub struct Packet {
 
 // The version that carries a port, where one does. No other place, in reader or writer, says which version goes with
 // which port: 00 01 with the ports 1 to 3, and 00 02 with port 4 alone.
+#[tactic(auto, unfolding(crate::specs::Packet::version_of))]
 fn version_of(port: u8) -> Option<u16>
     ensures { result ≡ version_for port }
 {
