@@ -47,7 +47,7 @@ pub digits_put : (l : List ℕ) (at b : ℕ) → Put l at (hex (b ∷ [])) (at +
 digits_put l at b = (refl, rw (add-one at))
 
 -- two digits, and what is left
-two : (bs l : List ℕ) (i p : ℕ) → i < length bs
+pub two : (bs l : List ℕ) (i p : ℕ) → i < length bs
     → sets (set (set l p (hex_digit (get_or bs i 0 / 16))) (p + 1) (hex_digit (get_or bs i 0 % 16))) (p + 2) (hex (drop (i + 1) bs)) ≡ sets l p (hex (drop i bs))
 two bs l i p h =
     let next : p + 2 ≡ suc (suc p) = omega arith in

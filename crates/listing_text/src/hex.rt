@@ -33,16 +33,19 @@ fn low(b: u8) -> u8
     digit(b % 16)
 }
 
-// Two digits a byte, from index `at` on; the index after the last.
+// Two digits a byte, from index `at` on; the index after the last. That index is carried along: by `at + 2 * i` the compiler does eight bytes at once
+// only where there are 24 or more.
 fn put_hex(bytes: &[u8], lent: &mut [u8], at: usize) -> usize
     requires { at + 2 * length bytes.now ≤ length lent.old }
     ensures { Put lent.old at (hex bytes.now) result lent.new }
 {
-    for (i, &b) in bytes.iter().enumerate() {
-        lent[at + 2 * i] = high(b);
-        lent[at + 2 * i + 1] = low(b);
+    let mut p = at;
+    for &b in bytes {
+        lent[p] = high(b);
+        lent[p + 1] = low(b);
+        p += 2;
     }
-    at + 2 * bytes.len()
+    p
 }
 
 // The digits in order, for what is too short for that.
