@@ -18,7 +18,7 @@ ghost use Rattle.comlynx.specs.Reader.{IsFresh, IsStep, IsStepInPlace};
 ghost use Rattle.comlynx.specs.Inside.{Filled, Runs, event_of, event_at, due, Finds, JudgedAs, Small, There, given, refuses};
 
 use crate::checksum;
-use crate::search::either_from;
+use crate::search::{either_from, past_runs};
 use answers::{Damage, Refusal};
 
 // The limits, named here because the reader's own constants cannot size its own array. FF 03, source, destination, size and type come before the data.
@@ -242,17 +242,37 @@ struct Ran {
     end: Option<Closed>,
 }
 
-// Takes in plain bytes from `from` on while there is room; gives the index after the last.
+// Takes in plain bytes byte by byte from `from` on, up to `stop` at most; gives the index after the last.
+fn fill_bytes(count: usize, held: &mut [u8; BODY], piece: &[u8], from: usize, stop: usize) -> usize
+    requires { (from ≤ stop) × (stop ≤ length piece.now) × (count + (stop - from) ≤ body_max) }
+    ensures { (result ≤ stop) × Filled count held.old piece.now from result held.new }
+{
+    for i in from..stop {
+        let b = piece[i];
+        if (b == FLAG) | (b == ESCAPE) {
+            return i;
+        }
+        held[count + (i - from)] = b;
+    }
+    stop
+}
+
+// Takes in plain bytes from `from` on while there is room; gives the index after the last. Where no run is plain, as between escapes that stand close
+// together, a search ahead and a copy would cost more than the few bytes do one by one.
 fn fill(count: usize, held: &mut [u8; BODY], piece: &[u8], from: usize) -> usize
     requires { (count ≤ body_max) × (from ≤ length piece.now) }
     ensures { Filled count held.old piece.now from result held.new }
 {
-    // a piece of one byte has no more: the search and the copy would be asked for nothing
+    // a piece of one byte has no more: the search would be asked for nothing
     if from == piece.len() {
         return from;
     }
     let stop = from + (piece.len() - from).min(Reader::BODY - count);
-    let end = either_from::<FLAG, ESCAPE>(&piece[..stop], from);
+    let runs = past_runs::<FLAG, ESCAPE>(&piece[..stop], from);
+    if runs == from {
+        return fill_bytes(count, held, piece, from, stop);
+    }
+    let end = either_from::<FLAG, ESCAPE>(&piece[..stop], runs);
     held[count..count + (end - from)].copy_from_slice(&piece[from..end]);
     end
 }

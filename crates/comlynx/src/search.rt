@@ -17,7 +17,7 @@ fn clear<const A: u8, const B: u8>(run: &[u8]) -> bool
 }
 
 // Passes by runs over bytes that are neither A nor B. It goes on by RUN and stops early: chunks would need the same index beside them.
-fn past_runs<const A: u8, const B: u8>(s: &[u8], from: usize) -> usize
+pub(crate) fn past_runs<const A: u8, const B: u8>(s: &[u8], from: usize) -> usize
     requires { from ≤ length s.now }
     ensures { Passed A B s.now from result }
 {
